@@ -1,15 +1,15 @@
-//! What bytes begin with.
+//! The input that bytes begin with.
 
 use crate::controls::control_key;
 use crate::sent::{ALT, Sent};
 use crate::sequences::{csi_in, ss3_in};
 
-/// What bytes begin with.
+/// The input that bytes begin with.
 #[derive(Clone, Copy)]
 pub enum Found {
     /// So many bytes, which mean this.
     Input(usize, Sent),
-    /// What cannot be told before more bytes come.
+    /// Input that cannot be told before more bytes come.
     More,
     /// Something else: text, or a control sequence or a string.
     Other,
@@ -27,7 +27,7 @@ impl Found {
     }
 }
 
-/// What these bytes begin with, of which more may come, or not where they are the last.
+/// The input that these bytes begin with; more may come, or not if they are the last.
 pub fn found_in(bytes: &[u8], is_last: bool) -> Found {
     match bytes {
         [] => Found::Other,
@@ -39,7 +39,7 @@ pub fn found_in(bytes: &[u8], is_last: bool) -> Found {
     }
 }
 
-/// What these bytes of a paste begin with: its end, or something else.
+/// The part that these bytes of a paste begin with: its end, or something else.
 pub fn paste_end_in(bytes: &[u8], is_last: bool) -> Found {
     let end = b"\x1b[201~".as_slice();
     if bytes.starts_with(end) {
@@ -51,7 +51,7 @@ pub fn paste_end_in(bytes: &[u8], is_last: bool) -> Found {
     }
 }
 
-// What bytes after ESC are with it.
+// The input of ESC and the bytes after it.
 fn escape_in(rest: &[u8], is_last: bool) -> Found {
     let escape = Sent::Key("Escape", 0);
     match rest {
@@ -77,7 +77,7 @@ fn escape_in(rest: &[u8], is_last: bool) -> Found {
     }
 }
 
-// What a sequence of ESC [ or ESC O is, without its ESC.
+// The input of a sequence of ESC [ or ESC O, without its ESC.
 fn sequence_in(rest: &[u8], is_last: bool) -> Found {
     match rest {
         [] if !is_last => Found::More,
@@ -95,7 +95,7 @@ enum Opens {
     More,
 }
 
-// Whether a letter after ESC opens a string, by what comes next: a DCS has parameters or an
+// Whether a letter after ESC opens a string, by the next bytes: a DCS has parameters or an
 // intermediate, an OSC a number or the letter of a report of a title, and an APC the G of images.
 fn opens_string(letter: u8, after: &[u8], is_last: bool) -> Opens {
     if !matches!(letter, b'P' | b']' | b'_') {
@@ -112,7 +112,7 @@ fn opens_string(letter: u8, after: &[u8], is_last: bool) -> Opens {
     if opens { Opens::String } else { Opens::Nothing }
 }
 
-// What a character after ESC is: a key with Alt.
+// The input of a character after ESC: a key with Alt.
 fn alt_in(rest: &[u8], is_last: bool) -> Found {
     let Some(first) = rest.first() else {
         return Found::Other;

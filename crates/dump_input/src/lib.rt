@@ -1,7 +1,8 @@
 // SPDX-License-Identifier: MIT
-//! What a terminal sends to a program, for `escdump --input`: keys, reports of the mouse, the
-//! focus and pastes. [`found_in`] says what bytes begin with, and [`add_sent`] says it in words.
-//! What a terminal answers has control sequences and strings of its own, which are not looked for.
+//! The input that a terminal sends to a program, for `escdump --input`: keys, reports of the mouse,
+//! the focus and pastes. [`found_in`] says which input bytes begin with, and [`add_sent`] says it
+//! in words. The answers of a terminal are control sequences and strings of their own, which are
+//! not looked for.
 #![tactic(auto)]
 
 mod controls;

@@ -20,7 +20,7 @@ pub fn bytes_report(bytes: &[u8], is_last: bool) -> Found {
     }
 }
 
-// The report of these bytes. Of a button that is released it does not say which.
+// The report of these bytes. It does not say which button is released.
 fn pointer_of(bits: u8, column: u8, line: u8) -> Pointer {
     Pointer {
         bits: u64::from(bits.saturating_sub(32)),
@@ -41,7 +41,7 @@ pub fn sgr_report(numbers: &[u8], is_released: bool) -> Option<Sent> {
     }))
 }
 
-/// The report of mode 1015: three numbers, of which the first is 32 more.
+/// The report of mode 1015: three numbers, the first of which is 32 more.
 pub fn numbers_report(numbers: &[u8]) -> Option<Sent> {
     match three_in(numbers) {
         Some((bits, column, line)) if bits >= 32 => Some(Sent::Mouse(Pointer {

@@ -1,4 +1,4 @@
-//! What a terminal sends.
+//! The input that a terminal sends.
 
 /// The modifiers that are held with a key, a bit each: 1 Shift, 2 Alt, 4 Control, 8 Meta, as xterm
 /// counts them from 1 on (<https://invisible-island.net/xterm/ctlseqs/ctlseqs.html>, "PC-Style
@@ -19,13 +19,13 @@ pub struct Pointer {
     pub bits: u64,
     /// Whether a button was released.
     pub is_released: bool,
-    /// The column, from 1 on; a pixel, where mode 1016 is set.
+    /// The column, from 1 on; a pixel, if mode 1016 is set.
     pub column: u64,
-    /// The line, from 1 on; a pixel, where mode 1016 is set.
+    /// The line, from 1 on; a pixel, if mode 1016 is set.
     pub line: u64,
 }
 
-/// What a terminal sends.
+/// The input that a terminal sends.
 #[derive(Clone, Copy)]
 pub enum Sent {
     /// A key that has a name, with modifiers.
@@ -41,7 +41,7 @@ pub enum Sent {
 }
 
 impl Sent {
-    /// The same with more modifiers; what has none stays.
+    /// The same with more modifiers; input without modifiers stays.
     pub fn with(self, more: Modifiers) -> Sent {
         match self {
             Sent::Key(name, modifiers) => Sent::Key(name, modifiers | more),

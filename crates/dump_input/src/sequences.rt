@@ -20,7 +20,7 @@ fn parameters_run(bytes: &[u8]) -> usize {
     bytes.len()
 }
 
-/// What the bytes after `ESC [` are with it. They are counted without it.
+/// The input of `ESC [` and the bytes after it. They are counted without it.
 pub fn csi_in(bytes: &[u8], is_last: bool) -> Found {
     let (params, after) = bytes.split_at(parameters_run(bytes).min(bytes.len()));
     match after {
@@ -36,7 +36,7 @@ pub fn csi_in(bytes: &[u8], is_last: bool) -> Found {
     }
 }
 
-/// What the bytes after `ESC O` are with it. They are counted without it.
+/// The input of `ESC O` and the bytes after it. They are counted without it.
 pub fn ss3_in(bytes: &[u8], is_last: bool) -> Found {
     let (params, after) = bytes.split_at(parameters_run(bytes).min(bytes.len()));
     match after {
@@ -48,7 +48,7 @@ pub fn ss3_in(bytes: &[u8], is_last: bool) -> Found {
     }
 }
 
-// This of so many bytes, where it is something.
+// This of so many bytes, if it is something.
 fn found_with(sent: Option<Sent>, length: usize) -> Found {
     match sent {
         Some(sent) => Found::Input(length, sent),
@@ -75,7 +75,7 @@ fn ss3_of(last: u8) -> Option<Sent> {
     }
 }
 
-// What a control sequence of these parameters and this final byte is.
+// The input of a control sequence of these parameters and this final byte.
 fn sequence_of(params: &[u8], last: u8) -> Option<Sent> {
     match (params, last) {
         ([], b'I') => Some(Sent::Focus(true)),
@@ -138,7 +138,7 @@ fn modified(params: &[u8], last: u8) -> Option<Sent> {
     key_of(modified_key(last), modifiers)
 }
 
-// A key of this name, where it has one.
+// A key of this name, if it has one.
 fn key_of(name: &'static str, modifiers: Modifiers) -> Option<Sent> {
     if name.is_empty() {
         None
@@ -147,8 +147,7 @@ fn key_of(name: &'static str, modifiers: Modifiers) -> Option<Sent> {
     }
 }
 
-// The modifiers after a `;`, or none of nothing. What comes after a `:` is no key that is looked
-// for.
+// The modifiers after a `;`, or none of nothing. A text after a `:` is no key that is looked for.
 fn modifiers_in(rest: &[u8]) -> Option<Modifiers> {
     match rest {
         [] => Some(0),
@@ -168,7 +167,7 @@ fn bits_of(number: u64) -> Option<Modifiers> {
     }
 }
 
-/// The number that a text begins with, of at most 9 digits, and what is after it.
+/// The number that a text begins with, of at most 9 digits, and the rest.
 pub fn number_in(text: &[u8]) -> Option<(u64, &[u8])> {
     let mut number: u64 = 0;
     let mut count: usize = 0;

@@ -1,4 +1,4 @@
-//! What a terminal sends in words.
+//! The input that a terminal sends, in words.
 
 use crate::sent::{Modifiers, Pointer, Sent};
 use dump_page::Phrase;
@@ -22,10 +22,10 @@ static BUTTONS: [(u64, &str); 12] = [
     (131, " button 11"),
 ];
 
-// The bits of a release, where the report does not say which button it is of.
+// The bits of a release, if the report does not say which button it is of.
 const RELEASED: u64 = 3;
 
-/// Adds what a terminal sends in words.
+/// Adds the input that a terminal sends, in words.
 pub fn add_sent(sent: Sent, to: &mut Phrase) {
     match sent {
         Sent::Key(name, modifiers) => {
@@ -59,7 +59,7 @@ fn add_modifiers(modifiers: Modifiers, to: &mut Phrase) {
     }
 }
 
-// Adds a report of the mouse: the button and what became of it, the modifiers, and the place.
+// Adds a report of the mouse: the button and its event, the modifiers, and the place.
 fn add_pointer(pointer: Pointer, to: &mut Phrase) {
     let bits = pointer.bits;
     to.begin("mouse", "", "");

@@ -1,4 +1,4 @@
--- What a reader finds between quotes.
+-- The texts that a reader finds between quotes.
 use Rattle.std.proofs.Common.{cond, ℕ, ◌≡◌, ◌==◌, ◌&&◌, true, false, not, Bool, List, [], ◌∷◌, ◌++◌, refl, ap, sym, ◌∙◌, append-nil, append_assoc}
 use Rattle.std.proofs.lemmas.Bool.{false≢true}
 use Rattle.std.specs.List.{flat_map, list_all}
@@ -15,7 +15,7 @@ some_put : (s : List ℕ) (r : Option (List ℕ)) → is_some (bytes_before s r)
 some_put s None = refl
 some_put s (Some t) = refl
 
--- a character that ends no quotes, where the rest passes
+-- a character that ends no quotes, if the rest passes
 passed_one : (b : Bool) (r : Reader) (read : List ℕ) (c : ℕ) (cs rest : List ℕ) → closes r c ≡ b
     → is_some (cond b None (bytes_before (given_bytes r c) (unquoted_bytes (next r c) cs))) ≡ true
     → ((read : List ℕ) → is_some (unquoted_bytes (next r c) cs) ≡ true

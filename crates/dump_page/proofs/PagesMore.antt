@@ -47,7 +47,7 @@ page_append s t (ps, all, e) (qs, more, f) = (
       ∙ ap (λ x. s ++ x) f,
 )
 
--- what is quoted, between quotes
+-- a quoted text, between quotes
 page_quote : (s q : List ℕ) → IsPage s → IsQuote q → IsPage (s ++ 0x22 ∷ (q ++ 0x22 ∷ []))
 page_quote s q h (bytes, k) =
     let reads : is_quoted k.added ≡ true =
@@ -62,7 +62,7 @@ pub page_quoted : (s t q : List ℕ) → ∥ IsPage s ∥₁ → ∥ IsQuote q �
 page_quoted s t q h k e = subst (λ x. ∥ IsPage x ∥₁) (sym e)
     (∥∥₁_elim h ∥∥₁_prop (λ x. ∥∥₁_map k (page_quote s q x)))
 
--- the same of what is added between quotes
+-- the same for a text that is added between quotes
 pub page_added : (s t : List ℕ) → ∥ IsPage s ∥₁ → AddsQuote s t → ∥ IsPage t ∥₁
 page_added s t h (q, k, e) = page_quoted s t q h ∣ k ∣₁ e
 

@@ -74,7 +74,7 @@ plain_quotes s (b ∷ bs) h =
     subst (λ t. Quotes s t (b ∷ bs)) (append_assoc s (b ∷ []) bs)
     (quotes_more s (s ++ b ∷ []) _ (b ∷ []) bs one (plain_quotes (s ++ b ∷ []) bs k.1))
 
--- what is quoted grows by plain bytes, that may be refused
+-- a quoted text grows by plain bytes, that may be refused
 pub plain_pushed : {U E : Type 0} (r : Result U E) (s t bs : List ℕ) → list_all is_plain bs ≡ true
     → OnOk r (t ≡ s ++ bs) → OnOk r (Quotes s t bs)
 plain_pushed r s t bs h = on_ok r (λ e. subst (λ x. Quotes s x bs) (sym e) (plain_quotes s bs h))

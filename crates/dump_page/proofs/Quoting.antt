@@ -76,7 +76,7 @@ quotes_number s t u v w b c d shown shown' high low e f g h = record {
       (sym (put_nothing _ ∙ put_nothing _ ∙ put_nothing _));
 }
 
--- what a result promises, where that follows from what another promises
+-- the promise of a result, if it follows from the promise of another
 pub on_ok : {U E A B : Type 0} (r : Result U E) → (A → B) → OnOk r A → OnOk r B
 on_ok (Ok u) f h = f h
 on_ok (Err e) f h = tt
@@ -88,7 +88,7 @@ nothing_left (x ∷ xs) e = absurd (omega arith)
 pub no_quote : ∥ IsQuote [] ∥₁
 no_quote = ∣ ([], quotes_nothing []) ∣₁
 
--- what is quoted grows by more
+-- a quoted text grows by more
 pub quote_more : (s t : List ℕ) → ∥ IsQuote s ∥₁ → QuotesSome s t → ∥ IsQuote t ∥₁
 quote_more s t h k = ∥∥₁_map h (λ x. (x.0 ++ k.0, quotes_more [] s t x.0 k.0 x.1 k.1))
 
@@ -103,7 +103,7 @@ quote_ends s t u v a e k f =
     ∙ append_assoc (s ++ 0x22 ∷ []) a (0x22 ∷ [])
     ∙ append_assoc s (0x22 ∷ []) (a ++ 0x22 ∷ [])
 
--- what is added between two quotes
+-- a text that is added between two quotes
 pub quote_put : {U E : Type 0} (r : Result U E) (s t u v : List ℕ) → t ≡ s ++ encode_utf8 0x22
     → QuotesSome t u → OnOk r (v ≡ u ++ encode_utf8 0x22) → OnOk r (AddsQuote s v)
 quote_put r s t u v e (bytes, k) = on_ok r (λ f. (

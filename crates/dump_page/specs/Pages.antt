@@ -1,4 +1,4 @@
--- What is safe to print on a terminal, and what is quoted there.
+-- The text that is safe to print on a terminal, and the text that is quoted there.
 use Rattle.std.specs.Prelude.{ℕ, ◌≡◌, ◌==◌, Bool, true, not, ◌&&◌, if◌then◌else◌, List, [], ◌∷◌, ◌++◌, Option}
 use Rattle.std.specs.List.{list_all, flat_map}
 use Rattle.std.specs.Char.{encode_utf8}
@@ -39,7 +39,7 @@ page_part_text NoColor = page_part_chars NoColor
 abbrev pub is_word : ℕ → Bool
 is_word c = is_shown c && not (c == 0x22)
 
--- what is quoted is shown, and reads as bytes
+-- a quoted text is shown, and reads as bytes
 abbrev pub is_fit : PagePart → Bool
 is_fit (Word c) = is_word c
 is_fit (Quoted cs) = list_all is_shown cs && is_quoted cs
@@ -62,13 +62,13 @@ pub record AppendsPage (old new : Option (List ℕ)) : Type 0 where
 abbrev pub IsPagePart : List ℕ → Type 0
 IsPagePart t = (p : PagePart) × (is_fit p ≡ true) × (page_part_text p ≡ t)
 
--- where a reader of a page is: outside of quotes, or between them, after some characters
+-- the place of a reader of a page: outside of quotes, or between them, after some characters
 pub data Place : Type 0 where
   Outside : Place
   Inside : Reader → List ℕ → Place
 
--- What a reader finds between quotes in these characters: a `"` begins it, and the next `"` ends it
--- that no `\` escapes.
+-- The texts that a reader finds between quotes in these characters: a `"` begins one, and the next
+-- `"` that no `\` escapes ends it.
 abbrev pub found_quotes : Place → List ℕ → List (List ℕ)
 found_quotes Outside [] = []
 found_quotes (Inside r read) [] = []
@@ -77,7 +77,7 @@ found_quotes Outside (c ∷ cs) = if c == 0x22 then found_quotes (Inside InText 
 found_quotes (Inside r read) (c ∷ cs) = if closes r c then read ∷ found_quotes Outside cs
     else found_quotes (Inside (next r c) (read ++ c ∷ [])) cs
 
--- what is quoted in parts
+-- the quoted texts of parts
 abbrev pub quoted_texts : List PagePart → List (List ℕ)
 quoted_texts [] = []
 quoted_texts (Word c ∷ ps) = quoted_texts ps

@@ -1,4 +1,4 @@
--- How bytes of a stream come between quotes, and what is read there.
+-- The way in which bytes of a stream come between quotes, and the bytes that are read there.
 use Rattle.std.specs.Prelude.{ℕ, ◌≡◌, ◌+◌, ◌*◌, ◌==◌, ◌&&◌, nat_le, not, Bool, true, false, if◌then◌else◌, Option, Some, None, List, [], ◌∷◌, ◌++◌}
 use Rattle.std.specs.Char.{encode_utf8, digit_value}
 use Rattle.std.specs.List.{list_all, flat_map}
@@ -18,7 +18,7 @@ abbrev pub bytes_before : List ℕ → Option (List ℕ) → Option (List ℕ)
 bytes_before s None = None
 bytes_before s (Some t) = Some (s ++ t)
 
--- where a reader is: in the text, after a `\`, after `\x`, or after the first digit of a number
+-- the place of a reader: in the text, after a `\`, after `\x`, or after the first digit of a number
 pub data Reader : Type 0 where
   InText : Reader
   AfterBackslash : Reader
@@ -32,7 +32,7 @@ closes AfterBackslash c = false
 closes InNumber c = false
 closes (AfterDigit d) c = false
 
--- where the reader is after a character that does not
+-- the place of the reader after a character that closes nothing
 abbrev pub next : Reader → ℕ → Reader
 next InText c = if c == 0x5c then AfterBackslash else InText
 next AfterBackslash c = if c == 0x78 then InNumber else InText
@@ -47,7 +47,7 @@ given_bytes InNumber c = []
 given_bytes (AfterDigit d) c = (16 * d + digit_value c) ∷ []
 
 -- The bytes that the characters between two quotes stand for: a character after a `\` for itself,
--- `\x` and two hexadecimal digits for a byte, and any other for itself. None, where a `"` is not
+-- `\x` and two hexadecimal digits for a byte, and any other for itself. None, if a `"` is not
 -- escaped or an escape is not whole.
 abbrev pub unquoted_bytes : Reader → List ℕ → Option (List ℕ)
 unquoted_bytes InText [] = Some []

@@ -47,7 +47,7 @@ impl Columns {
     }
 }
 
-// How many columns a character takes; none, where it looks like a space, or has no meaning.
+// The number of columns that a character takes; none, if it looks like a space, or has no meaning.
 fn width_of(c: char) -> Option<usize> {
     match c as u32 {
         0x20..=0x7e => Some(1),
@@ -73,8 +73,7 @@ pub fn is_noncharacter(code: u32) -> bool {
     }
 }
 
-/// Whether a character is for private use, and a font alone says what it looks like (Unicode,
-/// 23.5).
+/// Whether a character is for private use, and only a font gives it a look (Unicode, 23.5).
 pub fn is_private(code: u32) -> bool {
     match code {
         0xe000..=0xf8ff | 0xf0000..=0xffffd | 0x100000..=0x10fffd => true,

@@ -7,9 +7,9 @@ use crate::phrase::Phrase;
 use crate::plain::{digit_byte, plain_run, plain_text, word_text};
 
 impl Phrase {
-    /// Adds the first bytes, as far as there are fewer columns than this, and `..` where these are
-    /// not all: a character that is shown as itself, but `\` as `\\`, and each other byte, and `"`,
-    /// as `\x` with two hexadecimal digits.
+    /// Adds the first bytes, as far as there are fewer columns than this, and `..` if these are not
+    /// all: a character that is shown as itself, but `\` as `\\`, and each other byte, and `"`, as
+    /// `\x` with two hexadecimal digits.
     pub fn add_bytes(&mut self, bytes: &[u8], room: usize) {
         let end = self.columns().saturating_add(room);
         let is_whole = match bytes {
@@ -108,7 +108,7 @@ impl Phrase {
         self.add_as(c, width);
     }
 
-    // Adds a character in this way, which takes so many columns where it is shown as itself.
+    // Adds a character in this way, which takes so many columns if it is shown as itself.
     fn add_as(&mut self, c: char, width: Option<usize>)
         requires { IfSome width (λ _. is_shown c ≡ true) }
     {

@@ -6,8 +6,8 @@ use crate::phrase::Phrase;
 use std::alloc::Global;
 use unicode_visibility::is_deceiving;
 
-// A line for each row of what is counted: what the characters of it are, by Unicode's names or, of
-// several, by what they have in common.
+// A line for each row of counted characters: their names by Unicode or, for several, a word for all
+// of them.
 static NAMES: &str = "\
 soft hyphen
 combining grapheme joiner
@@ -87,7 +87,7 @@ impl Hidden {
         self.counts.is_empty() && !self.is_refused
     }
 
-    /// Counts a character that is not shown, where it is no control.
+    /// Counts a character that is not shown, if it is no control.
     pub fn note(&mut self, c: char) {
         let code = c as u32;
         if code >= 0xa0 {
@@ -135,7 +135,7 @@ impl Hidden {
         }
     }
 
-    // Adds the name of a row, where one of its characters came.
+    // Adds the name of a row, if one of its characters came.
     fn add_row(&self, row: usize, name: &'static str, to: &mut Phrase) {
         for count in &self.counts {
             if count.row == row {

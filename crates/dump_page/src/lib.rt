@@ -1,9 +1,9 @@
 //! A page of words about a stream that the stream cannot forge.
 //!
-//! The words of a [`Phrase`] are static texts and numbers, in which a `"` never is; what comes from
-//! the stream is between quotes, escaped by a [`Quote`]. A [`Page`] is made of phrases, line by
-//! line. So each of its characters is safe for a terminal, and whoever reads it finds between
-//! quotes exactly what was quoted: the law [`quotes_are_found`] says so.
+//! The words of a [`Phrase`] are static texts and numbers, in which a `"` never is; text from the
+//! stream is between quotes, escaped by a [`Quote`]. A [`Page`] is made of phrases, line by line.
+//! So each of its characters is safe for a terminal, and a reader finds between quotes exactly the
+//! quoted texts: the law [`quotes_are_found`] says so.
 //!
 //! ```text
 //! let mut phrase = page.phrase();

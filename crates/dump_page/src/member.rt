@@ -33,7 +33,7 @@ pub enum Member {
 }
 
 impl Member {
-    /// What comes before its value: the end of the member before it or the begin of the object, its
+    /// The text before its value: the end of the member before it or the begin of the object, its
     /// name between quotes, and a colon.
     pub(crate) fn text(self) -> &'static str
         ensures { ∥ IsPage result.now ∥₁ }

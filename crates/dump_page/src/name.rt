@@ -2,12 +2,12 @@
 
 use crate::phrase::Phrase;
 
-/// What a segment is, by name: its kind, as `CSI`; its own name, as `CUP`, which may be empty; and
-/// what it is told apart by where no table has it.
+/// The kind of a segment, by name: its kind, as `CSI`; its own name, as `CUP`, which may be empty;
+/// and a key that tells it apart if no table has it.
 #[derive(Clone, Copy, PartialEq, Eq)]
 pub struct Name(pub &'static str, pub &'static str, pub Key);
 
-/// What segments without a name of their own are told apart by.
+/// The key that tells segments without a name of their own apart.
 #[derive(Clone, Copy, PartialEq, Eq)]
 pub enum Key {
     /// Nothing more.

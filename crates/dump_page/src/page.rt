@@ -5,9 +5,9 @@ use crate::phrase::Phrase;
 use crate::plain::spaces;
 use std::alloc::Global;
 
-/// Lines for a terminal or a file, of which each character is shown, ends a line, or belongs to a
-/// colour that was asked for: no control or escape sequence of what was read is in them, and what
-/// is between quotes reads as bytes. Once memory is refused nothing more is appended, and
+/// Lines for a terminal or a file; each character of them is shown, ends a line, or belongs to a
+/// colour that was asked for: no control or escape sequence of the input is in them, and text
+/// between quotes reads as bytes. Once memory is refused nothing more is appended, and
 /// [`is_refused`](Page::is_refused) says so.
 #[derive(Drop)]
 pub struct Page {
@@ -90,7 +90,7 @@ impl Page {
         self.is_colored
     }
 
-    /// Changes the colour, where colours are asked for.
+    /// Changes the colour, if colours are asked for.
     pub fn color(&mut self, color: Color) {
         if !self.is_colored {
             return;

@@ -77,8 +77,8 @@ impl Phrase {
         self.text = Text::from_string(string);
     }
 
-    /// Says how many bytes of texts of the stream were left out, where any were, or that words
-    /// were. What is added from now on is whole.
+    /// Says how many bytes of texts of the stream were left out, if any were, or that words were.
+    /// Text that is added from now on is whole.
     pub fn add_left_out(&mut self) {
         let room = self.room;
         self.room = Room::ANY;
@@ -98,7 +98,7 @@ impl Phrase {
         self.text.as_str()
     }
 
-    /// The name that was given last; empty, where none was.
+    /// The name that was given last; empty, if none was.
     pub fn name(&self) -> Name {
         self.name
     }
@@ -119,7 +119,7 @@ impl Phrase {
         self.is_refused = true;
     }
 
-    /// Adds a name, after those of other actions and `; `, and words after it, where there are any.
+    /// Adds a name, after those of other actions and `; `, and words after it, if there are any.
     pub fn begin(&mut self, kind: &'static str, name: &'static str, words: &'static str) {
         self.begin_named(Name(kind, name, Key::Nothing), words);
     }
@@ -156,7 +156,7 @@ impl Phrase {
         name.add_to(self);
     }
 
-    /// Adds a space and a word, where it is not empty.
+    /// Adds a space and a word, if it is not empty.
     pub fn add_word(&mut self, word: &'static str) {
         if !word.is_empty() {
             self.add(" ");
@@ -164,14 +164,14 @@ impl Phrase {
         }
     }
 
-    /// Adds words in parentheses, where there are any.
+    /// Adds words in parentheses, if there are any.
     pub fn add_note(&mut self, words: &'static str) {
         if !words.is_empty() {
             self.add_all(&[" (", words, ")"]);
         }
     }
 
-    /// Adds words. What is not shown, and a `"`, becomes U+FFFD.
+    /// Adds words. A character that is not shown, and a `"`, becomes U+FFFD.
     pub fn add(&mut self, words: &'static str) {
         self.push_words(words);
     }
@@ -192,7 +192,7 @@ impl Phrase {
         self.add_digits(number.unsigned_abs());
     }
 
-    /// Adds how often something came, where that is more than once.
+    /// Adds how often something came, if that is more than once.
     pub fn add_times(&mut self, count: u64) {
         if count > 1 {
             self.add(", ");
@@ -206,8 +206,8 @@ impl Phrase {
         self.add_number(number, 0, 0);
     }
 
-    /// Adds a number in decimal, after spaces where it has fewer digits than this, and so many
-    /// spaces after it: 32 characters at most.
+    /// Adds a number in decimal, after spaces if it has fewer digits than this, and so many spaces
+    /// after it: 32 characters at most.
     pub fn add_number(&mut self, number: u64, width: usize, after: usize) {
         let mut text = [b' '; 32];
         let mut start = 32_usize.saturating_sub(after);
@@ -257,7 +257,7 @@ impl Phrase {
         }
     }
 
-    // Adds bytes of the stream between quotes, where there is room.
+    // Adds bytes of the stream between quotes, if there is room.
     fn push_bytes(&mut self, bytes: &[u8]) {
         if self.room.has_more(self.text.len()) {
             self.append_bytes(bytes);
@@ -279,7 +279,7 @@ impl Phrase {
         }
     }
 
-    /// Adds words and, between quotes, what is quoted.
+    /// Adds words and, between quotes, a quoted text.
     pub fn add_quote(&mut self, before: &'static str, quote: &Quote) {
         self.add(before);
         self.hidden.join(quote.hidden());
@@ -287,7 +287,7 @@ impl Phrase {
         self.push_quote(quote.as_str());
     }
 
-    // Adds what is quoted, between quotes, where there is room.
+    // Adds a quoted text, between quotes, if there is room.
     fn push_quote(&mut self, quoted: &str)
         requires { ∥ IsQuote quoted.now ∥₁ }
     {
@@ -296,7 +296,7 @@ impl Phrase {
         }
     }
 
-    // Adds what is quoted, between quotes.
+    // Adds a quoted text, between quotes.
     #[tactic(auto, using(crate::proofs::PagesMore::no_page))]
     fn append_quote(&mut self, quoted: &str)
         requires { ∥ IsQuote quoted.now ∥₁ }
@@ -313,7 +313,7 @@ impl Phrase {
         }
     }
 
-    /// Adds words and a string of JSON (RFC 8259, 7) after them, of which the value is this.
+    /// Adds words and a string of JSON (RFC 8259, 7) after them, which has this value.
     pub fn add_string(&mut self, before: &'static str, value: &str) {
         if !before.is_empty() {
             self.add(before);
@@ -326,7 +326,7 @@ impl Phrase {
         }
     }
 
-    /// Adds a string of JSON that is these bytes, where they are ASCII that comes as it is, and
+    /// Adds a string of JSON that is these bytes, if they are ASCII that comes as it is, and
     /// returns whether they are.
     pub fn add_plain_string(&mut self, bytes: &[u8]) -> bool {
         match plain_text(bytes) {
@@ -375,7 +375,7 @@ impl Phrase {
         }
     }
 
-    /// Adds what comes before the value of a member of a JSON object.
+    /// Adds the text before the value of a member of a JSON object.
     pub fn add_member(&mut self, member: Member) {
         if !self.is_refused {
             self.is_refused = self.text.push_str(member.text()).is_err();
@@ -448,7 +448,7 @@ impl Phrase {
         self.hidden.note(c);
     }
 
-    /// How many columns come before what is added next, but for what is quoted.
+    /// The number of columns before the next text, but for quoted text.
     pub(crate) fn columns(&self) -> usize {
         self.columns
     }

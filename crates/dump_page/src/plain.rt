@@ -25,7 +25,7 @@ fn is_plain_byte(byte: u8) -> bool
     0x20 <= byte && byte <= 0x7e && byte != 0x22 && byte != 0x5c
 }
 
-/// The text of these bytes, where all are such characters.
+/// The text of these bytes, if all are such characters.
 pub fn plain_text(bytes: &[u8]) -> Option<&str>
     ensures { IfSome result (λ t. (list_all is_plain t.now ≡ true) × (t.now ≡ bytes.now)) }
 {
@@ -55,7 +55,7 @@ fn is_word_byte(byte: u8) -> bool
     0x20 <= byte && byte <= 0x7e && byte != 0x22
 }
 
-/// The text of these bytes, where all are such characters.
+/// The text of these bytes, if all are such characters.
 pub fn word_text(bytes: &[u8]) -> Option<&str>
     ensures { IfSome result (λ t. (list_all is_word_byte t.now ≡ true) × (t.now ≡ bytes.now)) }
 {
@@ -78,7 +78,7 @@ pub fn plain_run(bytes: &[u8]) -> usize
     bytes.len()
 }
 
-/// The most bytes, of at most so many, that end no character early, where they are UTF-8.
+/// The most bytes, of at most so many, that end no character early, if they are UTF-8.
 pub fn boundary(bytes: &[u8], most: usize) -> usize
     ensures { result ≤ length bytes.now }
 {
@@ -91,7 +91,7 @@ pub fn boundary(bytes: &[u8], most: usize) -> usize
     end
 }
 
-/// The hexadecimal digit of a number below 16, of which the letter of 10 is this one.
+/// The hexadecimal digit of a number below 16; the letter of 10 is this one.
 pub fn digit(number: u8, ten: u8) -> char {
     if number < 10 {
         char::from(b'0'.saturating_add(number))

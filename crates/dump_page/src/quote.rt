@@ -1,4 +1,4 @@
-//! What comes between quotes.
+//! The text between quotes.
 ghost use Rattle.dump_page.specs.Quoted.{IsQuote};
 
 use crate::hidden::Hidden;
@@ -30,7 +30,7 @@ impl Quote {
         }
     }
 
-    /// What comes between the quotes.
+    /// The text between the quotes.
     pub fn as_str(&self) -> &str
         ensures { ∥ IsQuote result.now ∥₁ }
     {
@@ -69,7 +69,7 @@ impl Quote {
     }
 
     /// Adds words as the characters of a string of JSON (RFC 8259, 7): `"` and `\` after a `\`, and
-    /// what is not shown as U+FFFD.
+    /// characters that are not shown as U+FFFD.
     #[tactic(auto, using(crate::proofs::Quoting::no_quote))]
     pub(crate) fn add_string(&mut self, words: &str) {
         if self.is_refused {

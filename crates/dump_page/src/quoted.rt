@@ -89,7 +89,7 @@ pub fn push_string_between(text: &str, to: &mut Text) -> Result<(), AllocError>
     to.push('"')
 }
 
-/// Appends what is quoted, between quotes.
+/// Appends a quoted text, between quotes.
 pub fn push_between(quoted: &str, to: &mut Text) -> Result<(), AllocError>
     ensures { OnOk result (to.new ≡ to.old ++ 0x22 ∷ (quoted.now ++ 0x22 ∷ [])) }
 {
@@ -111,7 +111,7 @@ pub fn push_string(text: &str, to: &mut Text) -> Result<(), AllocError>
     Ok(())
 }
 
-// Appends what separates parts in this way, before each part but the first.
+// Appends the separator of parts in this way, before each part but the first.
 fn push_separator(separator: char, is_next: bool, to: &mut Text) -> Result<(), AllocError>
     requires shown { is_shown separator ≡ true }
     requires other { separator ≢ 0x78 }
@@ -139,7 +139,7 @@ fn push_part(text: &str, to: &mut Text) -> Result<(), AllocError>
     Ok(())
 }
 
-// Appends what comes between them.
+// Appends the text between them.
 fn push_run(text: &str, to: &mut Text) -> Result<(), AllocError>
     ensures { OnOk result (QuotesSome to.old to.new) }
 {

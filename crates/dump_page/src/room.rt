@@ -1,6 +1,6 @@
 //! How long words may be.
 
-/// How many bytes words may have, and what is left out of them.
+/// The number of bytes that words may have, and the count of those that are left out.
 #[derive(Clone, Copy, Drop)]
 pub struct Room {
     most: usize,
@@ -16,7 +16,7 @@ impl Room {
         is_short: false,
     };
 
-    /// At most so many, but that what is begun before is whole.
+    /// At most so many, but a text that is begun before is whole.
     pub fn of(most: usize) -> Room {
         Room {
             most,
@@ -25,7 +25,7 @@ impl Room {
         }
     }
 
-    /// Whether words of this length have room for more, and notes where they have not.
+    /// Whether words of this length have room for more, and notes if they have not.
     #[inline]
     pub fn has_more(&mut self, length: usize) -> bool {
         let has_more = length < self.most;

@@ -1,5 +1,5 @@
 // SPDX-License-Identifier: MIT
-//! The times of what a terminal got, for `escdump`: of recordings of asciinema, by their lines
+//! The times of a terminal's output, for `escdump`: of recordings of asciinema, by their lines
 //! ([`Cast`]), and of typescripts of script(1), by the timing file that it writes ([`Typescript`]).
 //! A time is in microseconds since the recording began.
 #![tactic(auto)]

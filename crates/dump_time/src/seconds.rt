@@ -47,8 +47,8 @@ impl Decimal {
     }
 }
 
-/// How many microseconds so many seconds are, rounded down: a number as JSON writes it (RFC 8259,
-/// 6). A negative one is 0. None, where the text is no such number.
+/// The number of microseconds of so many seconds, rounded down: a number as JSON writes it (RFC
+/// 8259, 6). A negative one is 0. None, if the text is no such number.
 pub fn micros_in(text: &[u8]) -> Option<u64> {
     match text {
         [b'-', rest @ ..] => match decimal_in(rest) {
@@ -103,8 +103,8 @@ fn exponent_of(number: u64) -> i64 {
     i64::try_from(number.min(1000)).unwrap_or(1000)
 }
 
-/// The number that these digits are in decimal; the greatest, where it is greater. None, where one
-/// is no digit, or there are none.
+/// The number that these digits are in decimal; the greatest, if it is greater. None, if one is no
+/// digit, or there are none.
 pub fn count_in(text: &[u8]) -> Option<u64> {
     if text.is_empty() {
         return None;

@@ -3,7 +3,7 @@
 use crate::seconds::{count_in, micros_in};
 use memchr::memchr;
 
-/// What a line of a timing file says (scriptreplay(1); script(1), "classic" and "advanced").
+/// The entry of a line of a timing file (scriptreplay(1); script(1), "classic" and "advanced").
 #[derive(Clone, Copy)]
 pub enum Entry<'t> {
     /// After so many microseconds the terminal got so many bytes.
@@ -14,7 +14,7 @@ pub enum Entry<'t> {
     Either(u64, u64),
     /// After so many microseconds something else came: a signal.
     Passed(u64),
-    /// A header: its name, and what it says.
+    /// A header: its name, and its value.
     Header(&'t [u8], &'t [u8]),
     /// Nothing.
     Nothing,
@@ -22,8 +22,8 @@ pub enum Entry<'t> {
     Wrong,
 }
 
-/// What a line says: `delay count`, or `O delay count`, `I delay count`, `S delay ..` or
-/// `H delay name ..`.
+/// The entry of a line: `delay count`, or `O delay count`, `I delay count`, `S delay ..` or `H
+/// delay name ..`.
 pub fn entry_in(line: &[u8]) -> Entry<'_> {
     match line {
         [] => Entry::Nothing,
@@ -62,7 +62,7 @@ fn counted(text: &[u8]) -> Option<(u64, u64)> {
     }
 }
 
-// The first word of a text, and what is after the space that ends it.
+// The first word of a text, and the rest after the space that ends it.
 fn word_of(text: &[u8]) -> (&[u8], &[u8]) {
     match memchr(b' ', text) {
         Some(at) => (&text[..at], &text[at + 1..]),
@@ -70,7 +70,7 @@ fn word_of(text: &[u8]) -> (&[u8], &[u8]) {
     }
 }
 
-/// The first line of a text, without its line feed, and what is after it.
+/// The first line of a text, without its line feed, and the rest.
 pub fn line_of(text: &[u8]) -> (&[u8], &[u8]) {
     match memchr(b'\n', text) {
         Some(at) => (&text[..at], &text[at + 1..]),

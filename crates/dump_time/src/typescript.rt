@@ -15,17 +15,17 @@ pub struct Run<'b> {
     pub has_more: bool,
     /// Whether they are of the direction that is asked for.
     pub is_asked: bool,
-    /// What comes after them.
+    /// The bytes after them.
     pub rest: &'b [u8],
 }
 
 /// A typescript of script(1) that comes in chunks, by its timing file. Its first line is a header,
-/// and what comes after the bytes that the timing counts is no part of it (scriptreplay(1)).
+/// and bytes after those that the timing counts are no part of it (scriptreplay(1)).
 #[derive(Clone, Copy, Drop)]
 pub struct Typescript<'t> {
-    // What is left of the timing.
+    // The rest of the timing.
     timing: &'t [u8],
-    // Whether what was typed is asked for, and not what the terminal got.
+    // Whether the typed input is asked for, and not the output that the terminal got.
     is_input: bool,
     // The files of output and of input.
     output_log: &'t [u8],
@@ -42,8 +42,8 @@ pub struct Typescript<'t> {
 }
 
 impl<'t> Typescript<'t> {
-    /// A typescript with this timing, of which nothing came; what was typed is asked for, or what
-    /// the terminal got.
+    /// A typescript with this timing, of which nothing came; the typed input is asked for, or the
+    /// output that the terminal got.
     pub fn new(timing: &'t [u8], is_input: bool) -> Typescript<'t> {
         Typescript {
             timing,
@@ -58,8 +58,8 @@ impl<'t> Typescript<'t> {
         }
     }
 
-    /// The bytes that come next, and came at one time; none, where all of these are taken, or no
-    /// entry of the timing is left.
+    /// The bytes that come next, and came at one time; none, if all of these are taken, or no entry
+    /// of the timing is left.
     pub fn next<'b>(&mut self, bytes: &'b [u8]) -> Result<Option<Run<'b>>, TimeError> {
         let bytes = self.begin(bytes);
         if bytes.is_empty() || !self.has_entry()? {
@@ -132,7 +132,7 @@ impl<'t> Typescript<'t> {
         Ok(())
     }
 
-    // Takes bytes that came after a delay. Those of the other direction are in this file where one
+    // Takes bytes that came after a delay. Those of the other direction are in this file if one
     // file has both.
     fn come(&mut self, delay: u64, count: u64, is_asked: bool) {
         self.time = self.time.saturating_add(delay);
@@ -142,7 +142,7 @@ impl<'t> Typescript<'t> {
         }
     }
 
-    // Whether one file has what the terminal got and what was typed.
+    // Whether one file has the output that the terminal got and the typed input.
     fn has_both(&self) -> bool {
         !self.output_log.is_empty() && self.output_log == self.input_log
     }
