@@ -14,9 +14,9 @@ pub enum FileFault<'a> {
     NotRegular,
     /// Its name is not UTF-8.
     NoText,
-    /// What was there is to be kept under its name with this suffix, and there is such a file.
+    /// The old file is to be kept under its name with this suffix, and there is such a file.
     IsThere(&'a str),
-    /// What was there is to be kept under another name, which the system refuses to give it.
+    /// The old file is to be kept under another name, which the system refuses to give it.
     NotKept(Reason),
 }
 

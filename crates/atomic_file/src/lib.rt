@@ -1,5 +1,5 @@
-//! Files that take the place of others once they are whole, and where the output of a program goes
-//! that is given the name of a file.
+//! Files that take the place of others once they are whole, and the output of a program that is
+//! given the name of a file.
 #![tactic(auto)]
 
 mod fault;
@@ -27,7 +27,7 @@ const OWN_MODE: u32 = 0o600;
 /// A new file in the folder of the one whose place it is to take.
 #[derive(Drop)]
 pub struct NewFile<R: Files + AllocGlobal> {
-    /// What is written goes here.
+    /// The text that is written goes here.
     pub file: R::File,
     name: String,
     place: String,
@@ -35,8 +35,8 @@ pub struct NewFile<R: Files + AllocGlobal> {
 
 impl<R: Files + AllocGlobal> NewFile<R> {
     /// A new file that is to take the place of the one of this name, with its permissions, and with
-    /// its owner where the system lets it. Where the name is that of a link, the file that the link
-    /// leads to is meant. Until then its name is the other's with a number and `suffix`, as
+    /// its owner if the system lets it. If the name is that of a link, the file that the link leads
+    /// to is meant. Until then its name is the other's with a number and `suffix`, as
     /// `.0.escfilter`.
     ///
     /// The error says why there can be none: there is no file of this name, it is a folder or no
@@ -53,7 +53,7 @@ impl<R: Files + AllocGlobal> NewFile<R> {
         Ok(NewFile::over(rt, place.as_str(), &known, suffix)?)
     }
 
-    /// The same of a regular file of which this is known, and whose name is that of no link.
+    /// The same for a regular file of which this is known, and whose name is that of no link.
     pub fn over(rt: &R, place: &str, known: &Metadata, suffix: &str) -> io::Result<NewFile<R>> {
         let new = created(rt, place, suffix, OWN_MODE)?;
         match new.become_as(rt, known) {
@@ -65,20 +65,20 @@ impl<R: Files + AllocGlobal> NewFile<R> {
         }
     }
 
-    /// A new file that is to take this place, where there is none.
+    /// A new file that is to take this place, in which there is none.
     pub fn at(rt: &R, place: &str, suffix: &str) -> io::Result<NewFile<R>> {
         created(rt, place, suffix, MODE)
     }
 
-    // Gives it the owner, where the system lets it, and the permissions of a file.
+    // Gives it the owner, if the system lets it, and the permissions of a file.
     fn become_as(&self, rt: &R, known: &Metadata) -> io::Result<()> {
         let _ = chown(rt, self.name.as_str(), Some(known.uid()), Some(known.gid()));
         self.file.set_permissions(known.permissions())
     }
 
-    /// Puts it in its place where it is whole, once what it holds is on the disk, and keeps what
-    /// was there under its name with this suffix, where there is one. At each moment there is a
-    /// file of its name, the old one or this.
+    /// Puts it in its place if it is whole, once its content is on the disk, and keeps the old file
+    /// under its name with this suffix, if there is one. At each moment there is a file of its
+    /// name, the old one or this.
     ///
     /// Where it is not whole, or after an error, it is removed, and the file of its place stays as
     /// it is. The error says why: there is a file with the suffix already, or the system refuses
@@ -95,7 +95,7 @@ impl<R: Files + AllocGlobal> NewFile<R> {
         placed
     }
 
-    // Puts it in its place, once what it holds is on the disk. After an error nothing has changed.
+    // Puts it in its place, once its content is on the disk. After an error nothing has changed.
     fn take_place<'a>(&self, rt: &R, suffix: &'a str) -> Result<(), FileFault<'a>> {
         self.file.sync_all()?;
         if suffix.is_empty() {

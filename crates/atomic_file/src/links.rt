@@ -11,9 +11,9 @@ const LINKS: u32 = 40;
 // Linux's number of ELOOP.
 const TOO_MANY_LINKS: i32 = 40;
 
-/// The name that this one leads to: itself, or where it is that of a symbolic link what that leads
-/// to, and so on. There may be no file of it. A name in `/dev/fd` or `/proc/self/fd` is a stream's,
-/// and leads to no other.
+/// The name that this one leads to: itself, or for a symbolic link the name that it leads to, and
+/// so on. There may be no file of it. A name in `/dev/fd` or `/proc/self/fd` is a stream's, and
+/// leads to no other.
 pub fn led_to<R: Files + AllocGlobal>(rt: &R, name: &str) -> io::Result<String> {
     let mut place = String::from_str(rt.alloc(), name)?;
     for _ in 0..=LINKS {
@@ -44,7 +44,7 @@ pub fn are_one<R: Files>(files: &R, one: &str, other: &str) -> bool {
     }
 }
 
-// What the link of this name leads to. None, where it is no link, or there is no file.
+// The name that the link of this name leads to. None, if it is no link, or there is no file.
 fn step<R: Files + AllocGlobal>(rt: &R, name: &str) -> io::Result<Option<String>> {
     match symlink_metadata(rt, name) {
         Ok(known) if known.is_symlink() => {
@@ -57,7 +57,7 @@ fn step<R: Files + AllocGlobal>(rt: &R, name: &str) -> io::Result<Option<String>
     }
 }
 
-// The name of what the link of this name has as its target, which is beside the link.
+// The name of the target of the link of this name, which is beside the link.
 fn joined<R: AllocGlobal>(rt: &R, name: &str, target: &str) -> io::Result<String> {
     if target.starts_with('/') {
         return Ok(String::from_str(rt.alloc(), target)?);

@@ -14,18 +14,17 @@ use std::io::{ErrorKind, IsTerminal, Write};
 pub enum Output {
     /// To a new file, which is to take the place of the one of this name, or of none.
     New(NewFile<HostRuntime>),
-    /// To what is there already and is no regular file, or is open already, as it comes.
+    /// To a file that is there already and is no regular file, or is open already, as it comes.
     Stream(Stream),
 }
 
 impl Output {
-    /// Where the output goes that is given this name. Where it is that of a link, that of what the
-    /// link leads to is meant, whether there is such a file or not.
+    /// The output that is given this name. If it is the name of a link, the name that the link
+    /// leads to is meant, whether there is such a file or not.
     ///
-    /// It goes to a new file, as to [`NewFile::over`], where there is a regular file or none; to
-    /// standard output or error where the name is theirs, as `/dev/stdout`; and to what it is the
-    /// name of where that is no regular file, as a pipe or a terminal, or is open already, as
-    /// `/dev/fd/3`.
+    /// It goes to a new file, as to [`NewFile::over`], if there is a regular file or none; to
+    /// standard output or error if the name is theirs, as `/dev/stdout`; and to the file itself if
+    /// that is no regular file, as a pipe or a terminal, or is open already, as `/dev/fd/3`.
     ///
     /// The error says why it cannot go there: it is a folder, its name is not UTF-8, or the system
     /// refuses it.
@@ -41,8 +40,8 @@ impl Output {
         }
     }
 
-    /// Puts a new file in its place where it is whole, as [`NewFile::end`] does; of what is written
-    /// as it comes there is nothing to do.
+    /// Puts a new file in its place if it is whole, as [`NewFile::end`] does; for output that is
+    /// written as it comes there is nothing to do.
     pub fn end(self, rt: &HostRuntime, is_whole: bool) -> Result<(), FileFault<'static>> {
         match self {
             Output::New(new) => new.end(rt, "", is_whole),
@@ -86,7 +85,7 @@ fn standard(rt: &HostRuntime, name: &str) -> Option<Stream> {
     }
 }
 
-// Where the output goes that is given this name, which is that of no link.
+// The output that is given this name, which is that of no link.
 fn at(rt: &HostRuntime, place: &str, suffix: &str) -> Result<Output, FileFault<'static>> {
     match metadata(rt, place) {
         Ok(known) if known.is_dir() => Err(FileFault::folder()),
@@ -94,7 +93,7 @@ fn at(rt: &HostRuntime, place: &str, suffix: &str) -> Result<Output, FileFault<'
             Ok(Output::New(NewFile::over(rt, place, &known, suffix)?))
         }
         Ok(known) => {
-            // (a file that is open already keeps what it has)
+            // (a file that is open already keeps its content)
             let mut options = OpenOptions::new();
             options.write(true).append(known.is_file());
             Ok(Output::Stream(Stream::Opened(options.open(rt, place)?)))

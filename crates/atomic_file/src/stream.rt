@@ -11,7 +11,7 @@ pub enum Stream {
     Output(Stdout),
     /// Standard error.
     Error(Stderr),
-    /// What was opened by its name.
+    /// A file that was opened by its name.
     Opened(File),
 }
 

@@ -42,7 +42,7 @@ impl BorrowedTally {
         self.total = self.total.wrapping_add(sum_of(bytes));
     }
 
-    /// What was counted.
+    /// The counts.
     pub fn counted(&self) -> Counted {
         Counted::Borrowed(self.number, self.total)
     }

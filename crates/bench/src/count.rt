@@ -5,7 +5,7 @@ use esc_values::csi_param::CsiParam;
 use std::alloc::AllocError;
 use std::fmt;
 
-/// Counts the events that it is given, and adds up what is in them, so that no part of the work can
+/// Counts the events that it is given, and adds up their contents, so that no part of the work can
 /// be left out.
 #[derive(Clone, Copy)]
 pub struct Count {

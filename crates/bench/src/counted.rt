@@ -1,9 +1,9 @@
-//! What a pass counted.
+//! The counts of a pass.
 
 use crate::count::Count;
 use std::fmt;
 
-/// What a pass counted.
+/// The counts of a pass.
 #[derive(Clone, Copy)]
 pub enum Counted {
     /// Events.

@@ -41,7 +41,7 @@ impl Images {
         }
     }
 
-    /// What was counted.
+    /// The counts.
     pub fn counted(&self) -> Counted {
         Counted::Images(self.number, self.total)
     }
@@ -53,7 +53,7 @@ impl Images {
     }
 }
 
-// How many bytes the payload has, where the image is sent in it.
+// The number of bytes of the payload, if the image is sent in it.
 fn payload_size(image: &KittyImage) -> usize {
     match image {
         KittyImage::TransmitData { transmit, .. }

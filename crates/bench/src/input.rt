@@ -1,4 +1,4 @@
-//! What is measured over.
+//! The input of the measures.
 
 use escape_stream::Action;
 
@@ -7,6 +7,6 @@ use escape_stream::Action;
 pub struct Input<'a> {
     /// The bytes of the stream.
     pub bytes: &'a [u8],
-    /// Its actions; none where they are not wanted.
+    /// Its actions; none if they are not wanted.
     pub actions: &'a [Action],
 }

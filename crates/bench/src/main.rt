@@ -2,9 +2,9 @@
 //!
 //! `bench [--counts] [MEASURE..] < STREAM` reads a stream whole and prints a line for each measure,
 //! `framing`, `parse`, `parse_borrowed`, `parse_reusing`, `parse_first`, `parse_first_as_vec`,
-//! `parse_first_into`, `encode`, `normalise`, `images` or `endless` (all where none is named): its
-//! best speed of several passes in MB/s (10^6 bytes a second), and what it counted. `--counts`
-//! leaves out the speed, so that the output depends on the stream alone.
+//! `parse_first_into`, `encode`, `normalise`, `images` or `endless` (all if none is named): its
+//! best speed of several passes in MB/s (10^6 bytes a second), and its counts. `--counts` leaves
+//! out the speed, so that the output depends on the stream alone.
 #![tactic(auto)]
 
 mod borrowed_tally;
@@ -46,7 +46,7 @@ fn main(rt: HostRuntime) -> io::Result<ExitCode> {
     Ok(ExitCode::from(u8::from(!is_taken)))
 }
 
-/// Takes the measures of standard input. False where a call fails.
+/// Takes the measures of standard input. False if a call fails.
 fn take_all(rt: &HostRuntime, wanted: Wanted) -> io::Result<bool> {
     let mut bytes = Vec::new(rt.alloc());
     rt.stdin().read_to_end(&mut bytes)?;
@@ -75,7 +75,7 @@ fn actions_of(alloc: Global, stream: &[u8]) -> Result<Vec<Action>, ParseError> {
     Parser::new(alloc).parse_as_vec(stream)
 }
 
-/// Reports the measures that are named, all where none is. False where a call fails.
+/// Reports the measures that are named, all if none is. False if a call fails.
 fn report_all(rt: &HostRuntime, wanted: Wanted, input: Input<'_>) -> io::Result<bool> {
     let mut is_taken = true;
     if !wanted.is_named {
@@ -92,8 +92,7 @@ fn report_all(rt: &HostRuntime, wanted: Wanted, input: Input<'_>) -> io::Result<
     Ok(is_taken)
 }
 
-/// Takes a measure several times, and prints its best speed and what it counted. False where a call
-/// fails.
+/// Takes a measure several times, and prints its best speed and its counts. False if a call fails.
 fn report(
     rt: &HostRuntime,
     measure: Measure,

@@ -13,7 +13,7 @@ use escape_stream::{Action, Parser, Watched, encode, normalise, parse_borrowed};
 use std::alloc::{Allocator, Global};
 use std::fmt;
 
-/// What can be measured.
+/// The measures that there are.
 #[derive(Clone, Copy, PartialEq)]
 pub enum Measure {
     /// The events of a stream, counted.
@@ -22,7 +22,7 @@ pub enum Measure {
     Parse,
     /// The borrowed actions of a stream, counted.
     ParseBorrowed,
-    /// The actions of a stream, counted, where the memory of the last actions serves the next.
+    /// The actions of a stream, counted; the memory of the last actions serves the next.
     ParseReusing,
     /// The first actions of the prefixes of a stream, counted.
     ParseFirst,
@@ -89,7 +89,7 @@ impl Measure {
         }
     }
 
-    /// Does the work once, and says what it counted. None where a call fails.
+    /// Does the work once, and returns its counts. None if a call fails.
     pub fn pass(self, alloc: Global, input: Input<'_>) -> Option<Counted> {
         match self {
             Measure::Framing => framing(alloc, input.bytes),
@@ -123,7 +123,7 @@ impl fmt::Display for Measure {
     }
 }
 
-// What was counted, where no call failed.
+// The counts, if no call failed.
 fn ended<E: Drop>(ending: Result<(), E>, counted: Counted) -> Option<Counted> {
     match ending {
         Ok(()) => Some(counted),

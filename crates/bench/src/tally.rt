@@ -34,7 +34,7 @@ impl Tally {
         }
     }
 
-    /// What was counted.
+    /// The counts.
     pub fn counted(&self) -> Counted {
         Counted::Actions(self.number, self.total)
     }
@@ -55,8 +55,8 @@ impl<A: Allocator> Sink<Action<A>> for Tally {
         Ok(())
     }
 
-    // What follows is as by default, and written out: at the type of an action, a method that is
-    // taken over from the trait costs a proof some seconds more.
+    // The next methods are as by default, and written out: at the type of an action, a method that
+    // is taken over from the trait costs a proof some seconds more.
     #[inline]
     fn receive_sequence(
         &mut self,

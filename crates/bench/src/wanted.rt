@@ -1,8 +1,8 @@
-//! What a run is asked for.
+//! The measures that a run is asked for.
 
 use crate::measure::Measure;
 
-/// What the words of the command line ask for.
+/// The measures that the words of the command line ask for.
 #[derive(Clone, Copy)]
 pub struct Wanted {
     /// Are the speeds printed?
@@ -16,7 +16,7 @@ pub struct Wanted {
 }
 
 impl Wanted {
-    /// What no word asks for.
+    /// The measures without any word.
     pub fn new() -> Wanted {
         Wanted {
             with_speed: true,

@@ -1,4 +1,4 @@
--- What a `Slot` holds is one machine value, and is reached through a `&` with the thread's token.
+-- The value in a `Slot` is one machine value, and is reached through a `&` with the thread's token.
 -- Assumes `Logic`.
 use Rattle.std.proofs.Common.{◌≡◌, ℕ, List, [], ◌∷◌, IfSome, None, Some, T, refl}
 use seplogic.Ra.Ura.{Ura}

@@ -65,7 +65,7 @@ module _ {M : Type 1} {𝓤 : Ura M} (𝓛 : Logic 𝓤) (t : Ty → Ptr → Fml
       rewrite ! 0 (λ (small : Bool). ‵ (way n p small)) (large_array R n large) refl $
       move ! (1 ∷ 2 ∷ 0 ∷ []) $ fjoin3 ! $ done !
 
-  -- the same of what `grow` or `shrink` answers
+  -- the same for the answer of `grow` or `shrink`
   pub wraps_result : (p : Ptr) (len old new : ℕ) (xs : List R.Denot)
       → 1024 < old * size (lone R.mir) → 1024 < new * size (lone R.mir) → (y : Bool) (b o : ℕ)
       → ent 𝓤 (sem 𝓛 (resized_if_ok t R p len old new xs (result_of y b o)))

@@ -1,4 +1,4 @@
--- The sizes of blocks, and of what is asked for.
+-- The sizes of blocks, and of requests.
 use Rattle.std.proofs.Common.{◌≡◌, ℕ, ◌%◌, ◌<◌, ◌≤◌, Bool, true, false, leb, if◌then◌else◌, refl, sym, ◌∙◌, arith, leb-true, leb-false, le-leb}
 use mir.Syntax.{Ty}
 use prog.Memory.{size, capped}
@@ -21,7 +21,7 @@ step n m rest whole small more = by_test (Holds n) (leb n m) m rest (λ e. (
   small,
 )) (λ e. more (leb-false n m e))
 
--- the block holds what is asked for
+-- the block holds the requested bytes
 pub block_holds : (n : ℕ) → n ≤ 1024
     → (block_size n % 16 ≡ 0) × (n ≤ block_size n) × (block_size n ≤ 1024)
 block_holds n low =

@@ -1,4 +1,4 @@
--- The two cases of what `take` gave. Assumes `Logic`.
+-- The two cases of the answer of `take`. Assumes `Logic`.
 use Rattle.std.proofs.Common.{◌≡◌, ℕ, List, [], ◌∷◌, ◌++◌, IfSome, None, Some, refl, ap, ◌∙◌}
 use seplogic.Ra.Ura.{Ura}
 use mir.Val.{Val, vcons, vnil, of_list}

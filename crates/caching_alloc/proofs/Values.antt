@@ -1,4 +1,4 @@
--- The machine value of a `Block`: what is owned tells it, and is made of nothing.
+-- The machine value of a `Block`: its ownership tells it, and is made of nothing.
 use Rattle.std.proofs.Common.{◌≡◌, Bool, true, false, T, ◌&&◌, List, [], ◌∷◌, ◌++◌, refl, ◌∙◌, lit<}
 use seplogic.Ra.Ura.{Ura}
 use mir.Syntax.{ty_ptr, ty_struct, tcons, tnil}
@@ -16,7 +16,7 @@ pub and_tt : (b : Bool) → T b → T (b && true)
 and_tt true t = tt
 and_tt false t = absurd t
 
--- a struct by its fields alone: what it owns does not read its name
+-- a struct by its fields alone: its ownership does not read its name
 abbrev pub plainly : List RattleType → RattleType
 plainly Rs = Struct (record { name = []; args = []; types = []; fields = Rs })
 

@@ -1,5 +1,5 @@
--- What the walks share: parameters that a call lets go of, what follows a part of a body, a
--- constant above 255, and a walk that holds the thread's token. Assumes `Logic`.
+-- The steps that the walks share: parameters that a call lets go of, the rest after a part of a
+-- body, a constant above 255, and a walk that holds the thread's token. Assumes `Logic`.
 use Rattle.std.proofs.Common.{ℕ, zero, suc, List, [], ◌∷◌, subst}
 use seplogic.Ra.Ura.{Ura}
 use mir.Syntax.{Fn, Callee, Body, Width, int_big}

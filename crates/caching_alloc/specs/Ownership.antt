@@ -1,4 +1,4 @@
--- What a slot owns, and the right to give a block back.
+-- The ownership of a slot, and the right to give a block back.
 use Rattle.std.specs.Prelude.{ℕ, ◌/◌, Bool, true, false, leb, List}
 use mir.Syntax.{Ty, w128, ty_int, ty_array}
 use mir.Val.{Val}
@@ -26,13 +26,13 @@ module _ (t : Ty → Ptr → Fml) where
   abbrev pub part_of_block : ℕ → Ty → Ptr → Fml
   part_of_block n τ p = fsep (fwand (room_for τ p) (room_for (units_of n) p)) (t (units_of n) p)
 
-  -- the right to give the block for a τ at p back, where t is the right to give one back to the
-  -- inner allocator
+  -- the right to give the block for a τ at p back, if t is the right to give one back to the inner
+  -- allocator
   abbrev pub block_token : Ty → Ptr → Fml
   block_token τ p = either (leb (size τ) 1024) (part_of_block (block_size (size τ)) τ p) (t τ p)
 
 module _ (F : RattleType) (I : F.Denot → Fml) where
-  -- fields of which I holds, in memory
+  -- fields for which I holds, in memory
   abbrev pub fields_with : ℕ → ℕ → Fml
   fields_with b o = fex (List Val) (λ vs. fsep (cell_at full_share F.mir vs b o)
       (fex F.Denot (λ i. fsep (F.own_val i vs) (I i))))

@@ -9,10 +9,10 @@ use std::mem::size_of;
 /// again.
 ///
 /// It is lent: `&Reusing<Global>` is an allocator and is `Copy`. A request for at most 1024 bytes
-/// gets a block of 32, 64, 128, 256, 512 or 1024 bytes, whichever is the least that holds them. Of
-/// each of these sizes four blocks at most are kept, and where none is the inner allocator is asked
-/// for one. It is asked for larger blocks each time, grows and shrinks them in its own way, and has
-/// each back at once. What it refuses is refused here, and nothing else.
+/// gets a block of 32, 64, 128, 256, 512 or 1024 bytes, whichever is the least that holds them. At
+/// most four blocks of each of these sizes are kept, and if none is kept the inner allocator is
+/// asked for one. It is asked for larger blocks each time, grows and shrinks them in its own way,
+/// and has each back at once. A request that it refuses is refused here, and no other.
 ///
 /// The blocks that are kept go back when the allocator is dropped.
 pub struct Reusing<A: Allocator> {

@@ -6,8 +6,8 @@ use crate::block::Block;
 use crate::slot::Slot;
 use std::alloc::Allocator;
 
-// A block is put into the first slot, what was there into the second, and so on. So where blocks
-// are held one after another, the first slot alone is used.
+// A block is put into the first slot, the block that was there into the second, and so on. So if
+// blocks are held one after another, the first slot alone is used.
 pub(crate) struct Shelf<A: Allocator> {
     size: usize,
     first: Slot<A>,
@@ -45,7 +45,7 @@ impl<A: Allocator> Shelf<A> {
         }
     }
 
-    // The same, where the first slot is empty.
+    // The same, if the first slot is empty.
     #[inline(never)]
     fn take_other(&self, alloc: &A) -> Option<Block<A>>
         requires { self.now.first.0 ≡ alloc.now }

@@ -1,6 +1,6 @@
-//! What the framing and the codecs of terminal escape sequences build on, under one name: the
-//! values of `esc_values`, the control and escape sequences of `esc_sequences`, and the hyperlinks
-//! of `esc_links`. Each of these names the standards that it follows.
+//! The crates that the framing and the codecs of terminal escape sequences build on, under one
+//! name: the values of `esc_values`, the control and escape sequences of `esc_sequences`, and the
+//! hyperlinks of `esc_links`. Each of these names the standards that it follows.
 //!
 //! A program asks for bold characters by `ESC [ 1 m`:
 //!
