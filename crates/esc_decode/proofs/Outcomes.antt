@@ -1,4 +1,4 @@
--- What a byte makes of what has begun.
+-- The outcome of a byte after the begun bytes.
 use Rattle.std.proofs.Common.{ℕ, ◌≡◌, ◌<◌, ◌≤◌, Bool, true, false, if◌then◌else◌, List, [], ◌∷◌, ◌++◌, arith, refl, ap, sym, ◌∙◌}
 use Rattle.std.proofs.lemmas.Bool.Decides.{nat_tests}
 use Rattle.esc_frame.proofs.Cut.WellFormedIsUtf8.{four_is, none_five, none_one, three_is, two_is}
@@ -88,7 +88,7 @@ pub no_sequence : (b : ℕ) → is_sequence (b ∷ []) ≡ false
 unfolding is_sequence
 no_sequence b = refl
 
--- where nothing has begun
+-- if nothing has begun
 none_broken : (b : ℕ) → is_prefix (b ∷ []) ≡ false → outcome [] b ≡ Broken
 none_broken b e = rw (no_sequence b, e) refl
 

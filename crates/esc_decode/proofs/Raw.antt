@@ -22,7 +22,7 @@ use Rattle.esc_decode.proofs.Characters.{prefix_begun, sequence_begun}
 use Rattle.esc_decode.proofs.Masks.{begun_append, begun_low}
 use Rattle.esc_decode.proofs.Outcomes.{nothing_begun, outcome_mask}
 
--- ---- what has begun shows in the masked stream
+-- ---- the begun bytes show in the masked stream
 
 first_mask : first_begun 0xff ≡ []
 unfolding is_prefix
@@ -91,7 +91,7 @@ pub raw_goes_on : (s x y : List ℕ) (b : ℕ) → masked_bytes s ≡ x ++ b ∷
     → continues (begun_after [] x) b ≡ true
 raw_goes_on s x y b e h = raw_after [] s x y b e h
 
--- ---- what has begun does not go on here
+-- ---- the begun bytes do not go on here
 
 abbrev IsOver : List ℕ → List ℕ → Type 0
 IsOver f t = (f ≡ []) ⊎ (is_broken_before f t ≡ true)
@@ -127,7 +127,7 @@ over_raw f b t (inl e) h k =
     let i = none_raw b h in absurd cc
 over_raw f b t (inr i) h k = both_ways (continues f b) k i
 
--- ---- what has begun after some bytes, and then does not go on
+-- ---- the bytes that some bytes leave begun, and that then do not go on
 
 over_after : (f x t : List ℕ) → IsOver f (x ++ t) → IsOver (begun_after [] x) t
     → IsOver (begun_after f x) t

@@ -60,7 +60,7 @@ encode_three n l h =
     let three : nat_lt n 65536 ≡ true = grind (arith, nat_tests) in
     rw (one, two, three) refl
 
--- ---- what is read is UTF-8
+-- ---- the text that is read is UTF-8
 
 scalar_of : (n : ℕ) → scalar (scalar_or n) ≡ true
 scalar_of n = by (scalar n) refl

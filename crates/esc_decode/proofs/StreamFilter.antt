@@ -1,4 +1,4 @@
--- A filter of what a stream becomes.
+-- A filter of the decoded text of a stream.
 use Rattle.std.proofs.Common.{ℕ, ◌≡◌, List, [], ◌++◌, refl, ap, sym, ◌∙◌, subst}
 use Rattle.esc_frame.specs.Machine.Prefixes.{prefix_of}
 use Rattle.esc_frame.specs.declared.utf8.sequence.Pending.{Pending}
@@ -35,7 +35,7 @@ module _ {F A : Type 0} (G : Feeder F A) (e : Encoding) (begun : Pending) (filte
   pub end_is : c s ≡ h.inner_end (decoded_stream e s)
   end_is = ap (λ f. f s) h.ended
 
-  -- what bytes more become
+  -- the decoded text of more bytes
   added_is : (b : List ℕ)
       → decoded_stream e (s ++ b) ≡ decoded_stream e s ++ decoded_after e (prefix_of begun) b
   added_is b = decoded_append e [] s b
@@ -53,7 +53,7 @@ module _ {F A : Type 0} (G : Feeder F A) (e : Encoding) (begun : Pending) (filte
       let (t, f) = h.adds.end (decoded_stream e s) in
       (t, end_is ∙ f ∙ ap (λ y. y ++ t) (sym (text_is s)))
 
-  -- the filter was fed what some bytes become
+  -- the filter was fed the decoded text of some bytes
   pub feeds : (b x t : List ℕ) (after : Pending) (new : F)
       → x ≡ decoded_after e (prefix_of begun) b
       → prefix_of after ≡ begun_by e (prefix_of begun) b

@@ -9,8 +9,7 @@ use Rattle.esc_decode.specs.declared.encoding.Encoding.TheVariants.{EightBit, Ut
 use Rattle.esc_decode.specs.declared.encoding.Encoding.TheVariants as encoding
 use Rattle.esc_decode.specs.Pages.{read_by}
 
--- what bytes become that come after a stream, of which this has begun a character; and what has
--- then
+-- the decoded text of bytes after a stream, if this has begun a character; and the begun bytes then
 abbrev pub decoded_after : Encoding → List ℕ → List ℕ → List ℕ
 decoded_after Utf8 f s = masked_after f s
 decoded_after EightBit f s = s
@@ -21,11 +20,11 @@ begun_by Utf8 f s = begun_after f s
 begun_by EightBit f s = f
 begun_by (encoding.CodePage p) f s = f
 
--- what a stream becomes
+-- the decoded text of a stream
 abbrev pub decoded_stream : Encoding → List ℕ → List ℕ
 decoded_stream e s = decoded_after e [] s
 
--- the text of a stream in this encoding, where this is that of what it becomes
+-- the text of a stream in this encoding, if this is that of its decoded text
 abbrev pub through : Encoding → (List ℕ → List ℕ) → List ℕ → List ℕ
 through e m s = m (decoded_stream e s)
 
@@ -34,8 +33,8 @@ pub record OnlyAdds (m c : List ℕ → List ℕ) : Type 0 where
   pub more : (s b : List ℕ) → (t : List ℕ) × (m (s ++ b) ≡ m s ++ t)
   pub end : (s : List ℕ) → (t : List ℕ) × (c s ≡ m s ++ t)
 
--- The filter was fed what this stream becomes, in which this has begun. The text of a stream is the
--- filter's, of that.
+-- The filter was fed the decoded text of this stream, which has begun these bytes. The text of a
+-- stream is the filter's for that.
 pub record Decodes {F A : Type 0} (G : Feeder F A) (e : Encoding) (begun : Pending) (filter : F)
     (m c : List ℕ → List ℕ) (s : List ℕ) : Type 0 where
   pub inner : List ℕ → List ℕ

@@ -18,13 +18,13 @@ is_raw b = is_from 0x80 0x9f b
 abbrev pub lone : ℕ → ℕ
 lone b = if is_raw b then 0xff else b
 
--- what a byte becomes, by what it makes of what has begun: a part of a character stays
+-- the byte that a byte becomes, by its outcome after the begun bytes: a part of a character stays
 abbrev pub masked_byte : ℕ → Outcome → ℕ
 masked_byte b Whole = b
 masked_byte b More = b
 masked_byte b Broken = lone b
 
--- What has begun after a byte. It is the first bytes of a well-formed character.
+-- The begun bytes after a byte: the first bytes of a well-formed character.
 abbrev pub first_begun : ℕ → List ℕ
 first_begun b = if is_prefix (b ∷ []) then b ∷ [] else []
 
@@ -33,7 +33,7 @@ next_begun f b Whole = []
 next_begun f b More = f ++ b ∷ []
 next_begun f b Broken = first_begun b
 
--- the same of bytes, where these have begun before them
+-- the same for bytes, if these have begun before them
 abbrev pub masked_after : List ℕ → List ℕ → List ℕ
 masked_after f [] = []
 masked_after f (b ∷ s) =
@@ -46,7 +46,7 @@ begun_after f (b ∷ s) = begun_after (next_begun f b (outcome f b)) s
 abbrev pub masked_bytes : List ℕ → List ℕ
 masked_bytes s = masked_after [] s
 
--- ---- what the laws speak of
+-- ---- the words of the laws
 
 -- each byte of the second is that of the first in its place, or FF in place of a raw control
 abbrev pub IsMaskOf : List ℕ → List ℕ → Type 0
@@ -67,7 +67,7 @@ is_bytewise (Apc o d) = true
 is_bytewise (Ignored k o d) = true
 is_bytewise _ = false
 
--- it begins with a raw control, which is such a control or opens what it is
+-- it begins with a raw control, which is such a control or its opener
 abbrev pub first_is_raw : List ℕ → Bool
 first_is_raw [] = false
 first_is_raw (b ∷ _) = is_raw b

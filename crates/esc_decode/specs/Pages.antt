@@ -19,7 +19,7 @@ table_of Windows1256 = WINDOWS_1256
 table_of Windows1257 = WINDOWS_1257
 table_of Windows1258 = WINDOWS_1258
 
--- the character of a byte, by the table of those from 80 on; U+FFFD where that has none
+-- the character of a byte, by the table of those from 80 on; U+FFFD if that has none
 abbrev pub scalar_or : ℕ → ℕ
 scalar_or n = if scalar n then n else 0xfffd
 

@@ -5,11 +5,11 @@ use Rattle.esc_decode.specs.declared.utf16.Utf16.{Utf16}
 
 -- ---- units
 
--- a unit of two bytes, of which the first is the lower or the higher
+-- a unit of two bytes; the first is the lower or the higher
 abbrev pub unit : Bool → ℕ → ℕ → ℕ
 unit little a b = if little then a + 0x100 * b else b + 0x100 * a
 
--- the units of bytes, where this byte of one has come before them
+-- the units of bytes, if this byte of one has come before them
 abbrev pub units_after : Bool → Option ℕ → List ℕ → List ℕ
 units_after little odd [] = []
 units_after little None (b ∷ s) = units_after little (Some b) s
@@ -34,8 +34,8 @@ is_low u = nat_le 0xdc00 u && nat_lt u 0xe000
 abbrev pub pair : ℕ → ℕ → ℕ
 pair h l = 0x10000 + 0x400 * (h % 0x400) + l % 0x400
 
--- the characters that a unit ends, where this first one of a pair has come before it: one that is
--- no part of a pair is U+FFFD
+-- the characters that a unit ends, if this first one of a pair has come before it: one that is no
+-- part of a pair is U+FFFD
 abbrev pub given_alone : ℕ → List ℕ
 given_alone u = if is_high u then [] else if is_low u then 0xfffd ∷ [] else u ∷ []
 
@@ -60,14 +60,14 @@ abbrev pub left_after : Option ℕ → List ℕ → Option ℕ
 left_after h [] = h
 left_after h (u ∷ us) = left_after (left h u) us
 
--- what is unfinished at the end of a stream is one U+FFFD
+-- an unfinished unit or pair at the end of a stream is one U+FFFD
 abbrev pub cut_short : Option ℕ → Option ℕ → List ℕ
 cut_short None None = []
 cut_short _ _ = 0xfffd ∷ []
 
 -- ---- streams
 
--- what is known of a stream that goes on
+-- the characters that are known of a stream that goes on
 abbrev pub characters : Bool → List ℕ → List ℕ
 characters little s = given_after None (units_after little None s)
 
@@ -79,7 +79,7 @@ all_characters little s = characters little s
 abbrev pub utf16_text : Bool → List ℕ → List ℕ
 utf16_text little s = encode_utf8_all (characters little s)
 
--- whether the lower byte of a unit comes first by these two, where they are a byte order mark
+-- whether the lower byte of a unit comes first by these two, if they are a byte order mark
 abbrev pub mark_of : ℕ → ℕ → Option Bool
 mark_of a b =
     if (a == 0xff) && (b == 0xfe) then Some true
@@ -92,7 +92,7 @@ mark_of a b =
 abbrev pub fresh_units : Bool → Utf16
 fresh_units little = record { is_little = little; odd = None; high = None }
 
--- what is kept after bytes more
+-- the state that is kept after more bytes
 abbrev pub after : Utf16 → List ℕ → Utf16
 after u s = record {
   is_little = u.is_little;

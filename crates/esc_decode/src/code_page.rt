@@ -12,7 +12,7 @@ use crate::tables::{
 /// windows-1250 are those of the Encoding Standard (<https://encoding.spec.whatwg.org/>).
 #[derive(Clone, Copy)]
 pub enum CodePage {
-    /// ISO/IEC 8859-1, where the bytes 80 to 9F are U+FFFD. It is not windows-1252, for which the
+    /// ISO/IEC 8859-1, with U+FFFD for the bytes 80 to 9F. It is not windows-1252, for which the
     /// Encoding Standard takes the name.
     Latin1,
     /// The same with the controls of C1 as the bytes 80 to 9F.
@@ -38,7 +38,7 @@ pub enum CodePage {
 }
 
 impl CodePage {
-    /// The character of a byte; U+FFFD where it has none.
+    /// The character of a byte; U+FFFD if it has none.
     #[tactic(auto, using(crate::proofs::Reading::character_scalar))]
     pub fn character(self, byte: u8) -> char
         ensures { result ≡ character_in (table_of self) byte }

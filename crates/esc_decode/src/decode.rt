@@ -1,4 +1,4 @@
-//! What the bytes of a chunk become.
+//! The decoded text of the bytes of a chunk.
 ghost use Rattle.std.specs.Prelude.{◌≡◌, if◌then◌else◌, IfOk, OnErr};
 ghost use Rattle.esc_decode.specs.Decodings.{begun_by, decoded_after};
 ghost use Rattle.esc_decode.specs.Masks.{begun_after, masked_after};
@@ -13,8 +13,8 @@ use crate::runs::{look, push_masked};
 use esc_frame::utf8::sequence::Pending;
 use std::alloc::{AllocError, Allocator};
 
-/// What has begun after these bytes, and whether they stay as they are; where not, `chunk` is what
-/// they become.
+/// The begun bytes after these bytes, and whether they stay as they are; if not, `chunk` is their
+/// decoded text.
 pub(crate) fn decode<A: Allocator>(
     chunk: &mut Vec<u8, A>,
     encoding: Encoding,
@@ -57,7 +57,7 @@ fn decode_utf8<A: Allocator>(
     Ok((last, stays))
 }
 
-// Whether bytes of an 8-bit encoding stay as they are; where not, `chunk` is what they become.
+// Whether bytes of an 8-bit encoding stay as they are; if not, `chunk` is their decoded text.
 fn decode_page<A: Allocator>(
     chunk: &mut Vec<u8, A>,
     page: CodePage,

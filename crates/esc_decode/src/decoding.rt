@@ -1,4 +1,4 @@
-//! A filter, of what a stream becomes.
+//! A filter of the decoded text of a stream.
 ghost use Rattle.std.specs.Prelude.{◌≡◌, ◌++◌, if◌then◌else◌, ℕ, List, OnErr, OnOk, []};
 ghost use Rattle.esc_decode.specs.Decodings.{Decodes, OnlyAdds, decoded_after, through};
 ghost use Rattle.esc_frame.specs.Machine.Prefixes.{prefix_of};
@@ -10,9 +10,9 @@ use esc_frame::utf8::sequence::Pending;
 use esc_normal::StreamFilter;
 use std::alloc::{AllocError, Allocator, Global};
 
-/// Takes a stream, and gives a filter what it becomes by its encoding. A chunk that stays as it is
-/// goes to the filter as it lies. So the filter's text is its own, of that, and nothing is written
-/// that it would not write.
+/// Takes a stream, and gives a filter its decoded text by its encoding. A chunk that stays as it is
+/// goes to the filter from its place. So the filter's text is its own, for that text, and nothing
+/// is written that it would not write.
 ///
 /// It keeps which bytes have begun a character, and the last chunk that does not stay as it is.
 #[derive(Drop)]
@@ -21,15 +21,15 @@ pub struct Decoding<F, A: Allocator = Global> {
     // of a character
     begun: Pending,
     filter: F,
-    // what the last chunk became that did not stay
+    // the decoded text of the last chunk that did not stay
     chunk: Vec<u8, A>,
     // whether the last chunk stays
     stays: bool,
 }
 
 impl<F: StreamFilter<A>, A: Allocator + Copy> Decoding<F, A> {
-    /// This filter, of what a stream in this encoding becomes; the filter is at the beginning of a
-    /// stream. Takes no memory.
+    /// This filter of the decoded text of a stream in this encoding; the filter is at the beginning
+    /// of a stream. Takes no memory.
     pub fn new(alloc: A, encoding: Encoding, filter: F) -> Decoding<F, A>
         ensures filter { (result.filter ≡ filter) × (result.encoding ≡ encoding) }
         ensures begins { (m c : List ℕ → List ℕ) → F.gives filter m c [] → OnlyAdds m c
@@ -72,7 +72,7 @@ impl<F: StreamFilter<A>, A: Allocator + Copy> Decoding<F, A> {
         }
     }
 
-    /// What the filter was given for the bytes that were taken last, which are these.
+    /// The text that the filter was given for the bytes that were taken last, which are these.
     pub fn chunk<'b>(&'b self, bytes: &'b [u8]) -> &'b [u8]
         ensures { result.now ≡ (if self.now.stays then bytes.now else self.now.chunk.items) }
     {

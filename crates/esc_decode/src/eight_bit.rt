@@ -56,7 +56,7 @@ pub(crate) fn character_of(table: &[u16; 128], byte: u8) -> u16
     }
 }
 
-// The number, where it is that of a character.
+// The number, if it is that of a character.
 #[inline(always)]
 fn scalar_or(n: u16) -> u16
     ensures { result ≡ scalar_or n }

@@ -1,11 +1,12 @@
-//! What is read of a stream.
+//! The bytes that are read of a stream.
 
 use crate::utf16_reader::{ByteOrder, Utf16Reader};
 use std::alloc::Global;
 use std::io;
 use std::io::Read;
 
-/// What is read of a stream: its bytes, or where it is in UTF-16 those of its characters in UTF-8.
+/// The bytes that are read of a stream: its bytes, or if it is in UTF-16 those of its characters in
+/// UTF-8.
 #[derive(Drop)]
 pub enum Input<R> {
     /// Its bytes.
@@ -15,8 +16,8 @@ pub enum Input<R> {
 }
 
 impl<R: Read> Input<R> {
-    /// What is read of a stream that this reader reads, by which byte of a unit comes first, where
-    /// it is in UTF-16. Takes no memory.
+    /// The bytes of a stream that this reader reads, by the byte of a unit that comes first, if it
+    /// is in UTF-16. Takes no memory.
     pub fn new(alloc: Global, order: Option<ByteOrder>, inner: R) -> Input<R> {
         match order {
             None => Input::Bytes(inner),

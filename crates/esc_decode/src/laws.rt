@@ -26,22 +26,22 @@ pub fn characters_stay()
     ensures { (s : List ℕ) → IsUtf8 s → masked_bytes s ≡ s }
 {}
 
-/// A byte of ASCII stays, and what follows it is as a stream of its own.
+/// A byte of ASCII stays, and the rest is as a stream of its own.
 #[tactic(auto, using(crate::proofs::Masks::ascii_stays))]
 pub fn ascii_stays()
     ensures { (s t : List ℕ) (b : ℕ) → b < 0x80
         → masked_bytes (s ++ b ∷ t) ≡ masked_bytes s ++ b ∷ masked_bytes t }
 {}
 
-/// What a byte becomes depends on what came before it alone, and of that on what has begun: so
-/// nothing is held back.
+/// The byte that a byte becomes depends only on the bytes before it, and only on the begun ones
+/// among them: so nothing is held back.
 #[tactic(auto, using(crate::proofs::Masks::masked_append))]
 pub fn masks_chunk_by_chunk()
     ensures { (s t : List ℕ) → masked_bytes (s ++ t) ≡ masked_bytes s
         ++ masked_after (begun_after [] s) t }
 {}
 
-/// What a stream in an 8-bit encoding becomes is text in UTF-8.
+/// The decoded text of a stream in an 8-bit encoding is text in UTF-8.
 #[tactic(auto, using(crate::proofs::Reading::read_is_text))]
 pub fn code_page_is_text()
     ensures { (p : CodePage) (s : List ℕ) → IsUtf8 (read_by p s) }
@@ -60,8 +60,8 @@ pub fn raw_bytes_go_on()
         → continues (begun_after [] x) b ≡ true }
 {}
 
-/// So none begins a segment, and opens a string, but inside of what the framing takes byte by byte:
-/// a sequence that is cut short, or a string other than an operating system command.
+/// So none begins a segment, and opens a string, but inside of segments that the framing takes byte
+/// by byte: a sequence that is cut short, or a string other than an operating system command.
 #[tactic(auto, using(crate::proofs::Raw::none_begins))]
 pub fn no_raw_control_begins()
     ensures { (s : List ℕ) (gs : List Segment) → IsCut (masked_bytes s) gs

@@ -2,8 +2,8 @@
 //!
 //! The framing obeys a byte 80 to 9F between characters as a control of C1 (ECMA-48, 5.3). In a
 //! stream of UTF-8 there is none: such a byte is a part of a character, or of a text in another
-//! encoding, of which it would open a string and so take away what follows. A [`Decoding`] before a
-//! filter has it replaced, by FF, which begins no character either and is shown as U+FFFD.
+//! encoding, in which it would open a string and so take away the text after it. A [`Decoding`]
+//! before a filter has it replaced, by FF, which begins no character either and is shown as U+FFFD.
 //!
 //! ```text
 //! let inner = Filter::new(alloc, 65_536, Policy::Color);

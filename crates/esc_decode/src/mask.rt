@@ -1,4 +1,4 @@
-//! What one byte becomes.
+//! The byte that one byte becomes.
 ghost use Rattle.std.specs.Prelude.{◌≡◌, ◌++◌, ◌∷◌, ℕ, List, []};
 ghost use Rattle.esc_frame.specs.Machine.Prefixes.{prefix_of};
 ghost use Rattle.esc_frame.specs.Sequences.{is_prefix, outcome};
@@ -24,7 +24,7 @@ impl Mask {
         }
     }
 
-    /// What the next byte becomes.
+    /// The byte that the next byte becomes.
     pub fn take(&mut self, byte: u8) -> u8
         ensures fed { (s : List ℕ) → HasConsumed s self.old
             → HasConsumed (s ++ byte ∷ []) self.new }
@@ -37,7 +37,7 @@ impl Mask {
     }
 }
 
-/// A byte after what has begun: what has begun then, and what the byte becomes.
+/// A byte after the begun bytes: the begun bytes then, and the byte that it becomes.
 #[inline(always)]
 pub(crate) fn step(begun: Pending, byte: u8) -> (Pending, u8)
     ensures begun { prefix_of result.0
@@ -51,7 +51,7 @@ pub(crate) fn step(begun: Pending, byte: u8) -> (Pending, u8)
     }
 }
 
-// What has begun after a byte that goes on nothing.
+// The begun bytes after a byte that goes on nothing.
 #[tactic(auto, unfolding(esc_frame::specs::Sequences::is_prefix))]
 #[inline(always)]
 fn first(byte: u8) -> Pending
@@ -64,7 +64,7 @@ fn first(byte: u8) -> Pending
     }
 }
 
-// What such a byte becomes.
+// The byte that such a byte becomes.
 #[inline(always)]
 fn lone(byte: u8) -> u8
     ensures { result ≡ lone byte }

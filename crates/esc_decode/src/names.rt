@@ -23,7 +23,7 @@ pub const ENCODINGS: &[&str] = &[
     "windows-1258",
 ];
 
-/// The 8-bit encoding of this name, where it is one.
+/// The 8-bit encoding of this name, if it is one.
 pub fn page_of(name: &str) -> Option<CodePage> {
     match name {
         "latin1" => Some(CodePage::Latin1),
@@ -40,7 +40,7 @@ pub fn page_of(name: &str) -> Option<CodePage> {
     }
 }
 
-/// Which byte of a unit comes first in the encoding of this name, where it is one of UTF-16.
+/// The byte of a unit that comes first in the encoding of this name, if it is one of UTF-16.
 pub fn order_of(name: &str) -> Option<ByteOrder> {
     match name {
         "utf-16" => Some(ByteOrder::Marked),
@@ -50,8 +50,8 @@ pub fn order_of(name: &str) -> Option<ByteOrder> {
     }
 }
 
-/// How bytes are read in this 8-bit encoding, or in UTF-8, where it is none; `obeys` says that the
-/// bytes 80 to 9F that are part of no character are controls of C1.
+/// The encoding by which bytes are read, for this 8-bit encoding, or for UTF-8, if it is none;
+/// `obeys` says that the bytes 80 to 9F that are part of no character are controls of C1.
 pub fn encoding_of(page: Option<CodePage>, obeys: bool) -> Encoding {
     match page {
         None if obeys => Encoding::EightBit,

@@ -1,4 +1,4 @@
-//! What many bytes become.
+//! The bytes that many bytes become.
 ghost use Rattle.std.specs.Prelude.{[], ◌≡◌, ◌++◌, ◌<◌, ◌≤◌, IfOk, IsTrue, OnErr, OnOk, length, take};
 ghost use Rattle.esc_decode.specs.Masks.{Stay, begun_after, masked_after};
 ghost use Rattle.esc_frame.specs.Machine.Prefixes.{prefix_of};
@@ -15,7 +15,7 @@ use std::alloc::{AllocError, Allocator};
 // in another encoding costs no more than one or two looks.
 const EARLY: usize = 4;
 
-/// What has begun after these bytes, and whether it is known that each of them stays.
+/// The begun bytes after these bytes, and whether it is known that each of them stays.
 pub(crate) fn look(begun: Pending, bytes: &[u8]) -> (Pending, bool)
     ensures begun { prefix_of result.0 ≡ begun_after (prefix_of begun) bytes.now }
     ensures stays { IsTrue result.1 → masked_after (prefix_of begun) bytes.now ≡ bytes.now }
@@ -33,7 +33,7 @@ pub(crate) fn look(begun: Pending, bytes: &[u8]) -> (Pending, bool)
     (last, stays)
 }
 
-// The length of the blocks of ASCII that come first, where nothing has begun; or 0.
+// The length of the blocks of ASCII that come first, if nothing has begun; or 0.
 fn first_blocks(begun: Pending, bytes: &[u8]) -> usize
     ensures few { result ≤ length bytes.now }
     ensures begun { begun_after (prefix_of begun) (take result bytes.now) ≡ prefix_of begun }
@@ -64,7 +64,7 @@ fn look_some(begun: Pending, bytes: &[u8], is_early: bool) -> (Pending, usize, b
     }
 }
 
-/// Appends what the bytes become.
+/// Appends the bytes that these bytes become.
 pub(crate) fn push_masked<A: Allocator>(
     text: &mut Vec<u8, A>,
     begun: Pending,
@@ -84,7 +84,7 @@ pub(crate) fn push_masked<A: Allocator>(
     Ok(())
 }
 
-// The same of some of these bytes, one at least: what has begun then, and how many.
+// The same for some of these bytes, at least one: the begun bytes then, and their number.
 fn push_some<A: Allocator>(
     text: &mut Vec<u8, A>,
     begun: Pending,
@@ -108,8 +108,8 @@ fn push_some<A: Allocator>(
     }
 }
 
-// The length of a run of bytes that stay and leave nothing begun; 0 where something has begun, or
-// none is seen at once.
+// The length of a run of bytes that stay and leave nothing begun; 0 if something has begun, or none
+// is seen at once.
 fn stay_run(begun: Pending, bytes: &[u8], is_early: bool) -> usize
     ensures few { result ≤ length bytes.now }
     ensures stay { 0 < result → (prefix_of begun ≡ []) × Stay (take result bytes.now) }
@@ -123,7 +123,7 @@ fn stay_run(begun: Pending, bytes: &[u8], is_early: bool) -> usize
     }
 }
 
-// The length of the bytes but for a last character that may go on, where they are UTF-8; or 0.
+// The length of the bytes but for a last character that may go on, if they are UTF-8; or 0.
 fn whole_run(bytes: &[u8]) -> usize
     ensures few { result ≤ length bytes.now }
     ensures stay { Stay (take result bytes.now) }
@@ -135,7 +135,7 @@ fn whole_run(bytes: &[u8]) -> usize
     }
 }
 
-// Where the last character begins, where it has more than one byte; or the end.
+// The beginning of the last character, if it has more than one byte; or the end.
 fn before_last(bytes: &[u8]) -> usize
     ensures { result ≤ length bytes.now }
 {

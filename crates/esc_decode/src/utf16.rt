@@ -45,7 +45,7 @@ impl Utf16 {
         Ok(())
     }
 
-    /// Appends U+FFFD where the stream ends within a unit or a pair.
+    /// Appends U+FFFD if the stream ends within a unit or a pair.
     pub fn end<A: Allocator>(&mut self, text: &mut String<A>) -> Result<(), AllocError>
         ensures text { OnOk result (string_bytes text.new
             ≡ string_bytes text.old ++ encode_utf8_all (cut_short self.old.odd self.old.high)) }
@@ -116,7 +116,7 @@ fn pair(high: u16, low: u16) -> u32
     0x1_0000 + 0x400 * (high as u32 % 0x400) + low as u32 % 0x400
 }
 
-// The first one of a pair that is left after a unit, where this has come before it.
+// The first one of a pair that is left after a unit, if this has come before it.
 fn left(high: Option<u16>, unit: u16) -> Option<u16>
     ensures { result ≡ left high unit }
 {
@@ -126,14 +126,14 @@ fn left(high: Option<u16>, unit: u16) -> Option<u16>
     }
 }
 
-// The same where nothing has.
+// The same if nothing has.
 fn left_alone(unit: u16) -> Option<u16>
     ensures { result ≡ left_alone unit }
 {
     if is_high(unit) { Some(unit) } else { None }
 }
 
-// Appends the characters that a unit ends, where this first one of a pair has come before it.
+// Appends the characters that a unit ends, if this first one of a pair has come before it.
 fn push_given<A: Allocator>(
     text: &mut String<A>,
     high: Option<u16>,
@@ -156,7 +156,7 @@ fn push_given<A: Allocator>(
     }
 }
 
-// The same where nothing has.
+// The same if nothing has.
 fn push_alone<A: Allocator>(text: &mut String<A>, unit: u16) -> Result<(), AllocError>
     ensures text { OnOk result
         (string_bytes text.new ≡ string_bytes text.old ++ encode_utf8_all (given_alone unit)) }

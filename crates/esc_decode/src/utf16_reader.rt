@@ -1,4 +1,4 @@
-//! A reader of UTF-8, of what another reads in UTF-16.
+//! A reader of UTF-8 for the text that another reads in UTF-16.
 ghost use Rattle.std.specs.Prelude.{◌≡◌, ◌≤◌, length};
 ghost use Rattle.esc_decode.specs.Units.{mark_of};
 
@@ -17,12 +17,13 @@ pub enum ByteOrder {
     Little,
     /// The higher one.
     Big,
-    /// As a byte order mark says, which is left out; the lower one where the stream has none.
+    /// As a byte order mark says, which is left out; the lower one if the stream has none.
     Marked,
 }
 
-/// Reads as UTF-8 what another reader has in UTF-16: a unit that is no part of a pair is U+FFFD,
-/// and so is what the end of the stream cuts short. It keeps what it read at once, as UTF-8.
+/// Reads as UTF-8 the text that another reader has in UTF-16: a unit that is no part of a pair is
+/// U+FFFD, and so is a unit or pair that the end of the stream cuts short. It keeps the text of one
+/// read, as UTF-8.
 #[derive(Drop)]
 pub struct Utf16Reader<R, A: Allocator = Global> {
     inner: R,
@@ -30,14 +31,14 @@ pub struct Utf16Reader<R, A: Allocator = Global> {
     // whether a mark may come, and the first byte of it
     awaits_mark: bool,
     first: Option<u8>,
-    // what was read, and how much of it was handed out
+    // the text that was read, and the number of bytes of it that were handed out
     text: String<A>,
     at: usize,
     has_ended: bool,
 }
 
 impl<R: Read, A: Allocator> Utf16Reader<R, A> {
-    /// A reader of what this one reads, from its beginning. Takes no memory.
+    /// A reader of the text of this one, from its beginning. Takes no memory.
     pub fn new(alloc: A, order: ByteOrder, inner: R) -> Utf16Reader<R, A> {
         let (is_little, awaits_mark) = match order {
             ByteOrder::Little => (true, false),
@@ -55,7 +56,7 @@ impl<R: Read, A: Allocator> Utf16Reader<R, A> {
         }
     }
 
-    // Reads more, in place of what was handed out.
+    // Reads more, in place of the text that was handed out.
     fn refill(&mut self) -> io::Result<()> {
         let mut bytes = [0; BYTES];
         let count = self.inner.read(&mut bytes)?;
@@ -91,7 +92,7 @@ impl<R: Read, A: Allocator> Utf16Reader<R, A> {
         }
     }
 
-    // Takes the second byte, where it is there, after this first one.
+    // Takes the second byte, if it is there, after this first one.
     fn push_second<'b>(&mut self, first: u8, bytes: &'b [u8]) -> Result<&'b [u8], AllocError> {
         let Some((second, rest)) = bytes.split_first() else {
             return Ok(bytes);
@@ -116,7 +117,7 @@ impl<R: Read, A: Allocator> Utf16Reader<R, A> {
         self.units.end(&mut self.text)
     }
 
-    // Hands out what was read, as much as there is room for.
+    // Hands out the text that was read, as much as there is room for.
     fn hand_out(&mut self, buf: &mut [u8]) -> usize
         ensures { result ≤ length buf.new }
     {
@@ -151,7 +152,7 @@ fn copied(bytes: &[u8], buf: &mut [u8]) -> usize
     count
 }
 
-// Whether the lower byte of a unit comes first by this mark, where it is one.
+// Whether the lower byte of a unit comes first by this mark, if it is one.
 fn mark_of(first: u8, second: u8) -> Option<bool>
     ensures { result ≡ mark_of first second }
 {

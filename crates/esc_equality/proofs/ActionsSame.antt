@@ -1,4 +1,4 @@
--- Actions are equal exactly where their values are.
+-- Actions are equal exactly if their values are.
 use Rattle.std.specs.Prelude.{◌≡◌, ◌↔◌, nat_eq, Bool, true, false, IsTrue}
 use Rattle.std.specs.Cmp.Lexicographic.{pointwise}
 use Rattle.std.specs.declared.alloc.Allocator.{Ghosts}

@@ -48,7 +48,7 @@ shorts T G x y a b =
       λ e. parts.1 (rw e (refl, (refl, (refl, refl)))),
     )
 
--- of the values, and not of where they lie
+-- the equality of the values, and not of their places
 pub devices : (T : RattleType) (G : Ghosts T.Denot) (x y : Dict) (a b : DeviceControlMode T.Denot)
     → IsTrue ((mode_eq.ghosts T G x y).eq a b) ↔ (device_value a ≡ device_value b)
 devices T G x y (device.Enter a) (device.Enter b) =

@@ -1,4 +1,4 @@
--- Tests that hold exactly of equal values, and what is put together of them.
+-- Tests that hold exactly for equal values, and the tests that are put together of them.
 use Rattle.std.specs.Prelude.{◌≡◌, ◌↔◌, ℕ, nat_eq, Bool, true, false, ◌&&◌, List, [], ◌∷◌, Some, None, IsTrue}
 use Rattle.std.specs.Cmp.Lexicographic.{pointwise}
 use Rattle.std.specs.Option.{option_eq}
@@ -11,7 +11,7 @@ use Rattle.std.proofs.lemmas.Bool.{and_parts}
 abbrev pub IsSame : {X : Type 0} → (X → X → Bool) → Type 0
 IsSame {X = X} E = (x y : X) → IsTrue (E x y) ↔ (x ≡ y)
 
--- what the test of two different constructors never says
+-- the test of two different constructors never says this
 pub never : {P : Type 0} → false ≡ true → P
 never h = absurd cc
 

@@ -1,5 +1,4 @@
-//! Control codes, control sequences and actions. Of what lies in a box the value counts, and not
-//! where it lies.
+//! Control codes, control sequences and actions. A value in a box counts, and not its place.
 ghost use Rattle.std.specs.Prelude.{◌≡◌, ◌↔◌, IsTrue};
 ghost use Rattle.esc_sequences.specs.Csis.{csi_value};
 ghost use Rattle.esc_actions.specs.Values.{value_of};

@@ -1,5 +1,5 @@
-//! Equality is equality of values: `==` of each public type that has it is true exactly where the
-//! two are the same. Of the errors of `encode` and `normalise` their own crates say it, `esc_write`
+//! Equality is equality of values: `==` of each public type that has it is true exactly if the two
+//! are the same. For the errors of `encode` and `normalise` their own crates say it, `esc_write`
 //! and `esc_normal`.
 //!
 //! Most of these types derive `==`, and a derive has no clause of its own; here each is the body of

@@ -1,4 +1,4 @@
-//! Lists and boxed values, where `==` of what they hold is equality.
+//! Lists and boxed values, if `==` of their items is equality.
 ghost use Rattle.std.specs.Prelude.{◌≡◌, ◌↔◌, IsTrue};
 
 use esc_values::{Boxed, Items};

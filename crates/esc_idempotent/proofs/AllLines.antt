@@ -1,4 +1,4 @@
--- What a filter of lines makes of what it wrote: each line, and the last.
+-- A filter of lines over its own output: each line, and the last.
 use Rattle.std.proofs.Common.{ℕ, ◌≡◌, Bool, true, false, if◌then◌else◌, List, [], ◌∷◌, ◌++◌, Option, None, Some, refl, sym, ap, ◌∙◌, subst, append-nil, append_assoc}
 use Rattle.std.specs.List.{filter, flat_map}
 use Rattle.std.proofs.lemmas.Bool.{true≢false}
@@ -77,7 +77,7 @@ joined_lines (l ∷ ls) r (line, rest) =
           ∙ ap (λ t. ends_line t (joined_lists ls)) (line_ends true l line) ∙ q.1,
     )
 
--- what is kept of more lines
+-- the facts about more lines that are kept
 kept_more : (A : Type 0) (n : ℕ) (ls ks : List (List ℕ)) → AreKept A n (ls ++ ks)
     → AreKept A n ls × AreKept A n ks
 kept_more A n [] ks h = (tt, h)
@@ -142,7 +142,7 @@ module _ {A : Type 0} (u : Guard) (f : Value A → Bool) (text : AdmitsInstead u
       quiet true h = refl
       quiet false h = h
 
-  -- and so does what comes after them
+  -- and so do the lines after them
   last_lasts : (r : List ℕ) → IsKept A (Some again) (Last r)
       → list_text (closed_values f (passed_of_line u again f (Last r))) ≡ Last r
   last_lasts r kept =

@@ -1,4 +1,4 @@
--- What holds of each value that may give something back holds of all that is given back.
+-- A fact about each value that may undo a change is one about all values that do.
 use Rattle.std.proofs.Common.{◌≡◌, pos, Bool, true, false, if◌then◌else◌, List, [], ◌∷◌, ◌++◌, None, refl}
 use Rattle.std.specs.List.{list_all}
 use Rattle.esc_sequences.specs.Csis.{sgr, unspecified}

@@ -1,5 +1,5 @@
--- What a filter makes of a normal list whose own values all pass: that list, or the one without the
--- string terminators.
+-- The values that a filter makes of a normal list whose own values all pass: that list, or the one
+-- without the string terminators.
 use Rattle.std.proofs.Common.{◌≡◌, Bool, true, false, not, ◌&&◌, ◌||◌, if◌then◌else◌, List, [], ◌∷◌, ◌++◌, refl, sym, ap, ◌∙◌}
 use Rattle.std.specs.List.{filter, list_all}
 use Rattle.std.proofs.lemmas.Bool.{and_parts, true≢false}
@@ -25,7 +25,7 @@ single_spelled (datum b) h = refl
 single_spelled exit h = refl
 
 module _ {A : Type 0} where
-  -- a terminator, where there is none
+  -- a terminator, if there is none
   abbrev pub ended : Bool → List (Value A) → List (Value A)
   ended t vs = (if t then terminator ∷ [] else []) ++ vs
 
@@ -101,7 +101,7 @@ module _ {A : Type 0} where
         ap (list_all or_ends) (normal_more v vs r.0)
         ∙ rw (or_passes v q.0, ended_each (wants v vs) (normal vs) (each_passes vs q.1 r.1)) refl
 
-  -- ---- what is left changed
+  -- ---- the changes that are left
 
   ended_leaves : (t : Bool) (vs : List (Value A)) (o : Terminal)
       → after_values (ended t vs) o ≡ after_values vs o

@@ -1,4 +1,5 @@
--- What a filter of lines reads of a line that it wrote, and what it makes of that.
+-- The values that a filter of lines reads from a line that it wrote, and those that it makes of
+-- them.
 use Rattle.std.proofs.Common.{ℕ, ◌≡◌, Bool, true, false, not, ◌&&◌, ◌||◌, if◌then◌else◌, lit<, List, [], ◌∷◌, ◌++◌, Option, Some, refl, sym, ap, ◌∙◌, subst, append-nil, append_assoc}
 use Rattle.std.specs.List.{filter, list_all}
 use Rattle.std.proofs.lemmas.Bool.{and_parts}

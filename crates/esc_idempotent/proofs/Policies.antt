@@ -1,4 +1,4 @@
--- The policies admit text, and what gives back what they admit leaves changed.
+-- The policies admit text, and the values that undo the changes that admitted values leave.
 use Rattle.std.proofs.Common.{◌≡◌, pos, Bool, true, false, List, [], ◌∷◌, None, refl, sym, ap, ◌∙◌}
 use Rattle.std.specs.List.{list_all}
 use Rattle.esc_sequences.specs.Csis.{sgr, unspecified}
@@ -26,7 +26,7 @@ use Rattle.esc_idempotent.proofs.Tints.{text_closes, tints_close}
 use Rattle.esc_idempotent.specs.Again.{AdmitsAs, AdmitsItsClosing}
 
 module _ (A : Type 0) where
-  -- what the policy for the screen admits, and this value is
+  -- the policy for the screen admits this value
   abbrev IsOn : Value A → Type 0
   IsOn v = admits policy.Screen v ≡ true
 

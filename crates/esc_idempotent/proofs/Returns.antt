@@ -1,5 +1,5 @@
--- A carriage return that comes last in what was written is a control by itself, and where a line
--- feed stands in its place, so is that.
+-- A carriage return that comes last in the output is a control by itself, and a line feed in its
+-- place is one, too.
 use Rattle.std.proofs.Common.{ℕ, ℤ, ◌≡◌, Bool, true, false, ◌&&◌, ◌==◌, if◌then◌else◌, List, [], ◌∷◌, ◌++◌, map, None, refl, sym, ap, ◌∙◌, append-nil, append_assoc}
 use Rattle.std.proofs.lemmas.Bool.{true≢false}
 use Rattle.std.proofs.lemmas.List.{append_cancel_left}
@@ -133,7 +133,7 @@ osc_stays o ps f outcomes.Broken e h = no_ground _ refl h
 osc_stays o ps f outcomes.Whole e h = unbroken outcomes.Whole refl e
 osc_stays o ps f outcomes.More e h = unbroken outcomes.More refl e
 
--- ---- what goes on reads no letter as a character
+-- ---- a text that goes on reads no letter as a character
 
 module _ {A : Type 0} where
   abbrev IsLetter : List (Value A) → Type 0
@@ -240,7 +240,7 @@ module _ {A : Type 0} where
   unfolding meaning_within events_within class_of
   letter_means = refl
 
-  -- nothing is unfinished of what reads by itself
+  -- nothing is unfinished after a text that reads by itself
   pub ground_of : (t : List ℕ) (vs : List (Value A)) → Reads t vs → after_all Ground t ≡ Ground
   ground_of t vs h =
       let m = mode_from plain (events_within None t) in

@@ -1,4 +1,4 @@
--- What is written of values is written as it is where it is written again.
+-- The values that are written for values are written again as they are.
 use Rattle.std.proofs.Common.{ℕ, ◌≡◌, ◌⊎◌, inl, inr, Bool, true, false, not, if◌then◌else◌, ◌<◌, arith, List, [], ◌∷◌, ◌++◌, map, Option, None, Some, refl, sym, ap, ◌∙◌, subst}
 use Rattle.std.specs.List.{list_all}
 use Rattle.std.proofs.lemmas.Bool.{and_parts, true≢false}
@@ -135,7 +135,7 @@ module _ {A : Type 0} (u : Guard) where
       by (datum x) k = refl
       by exit k = refl
 
-  -- ---- what is written of values
+  -- ---- the values that are written for values
 
   value_steady : (b : Option ℕ) (v : Value A) → AreSteady u b (in_guard u b v)
   value_steady b v = by (kinds v)
@@ -177,7 +177,7 @@ module _ {A : Type 0} (u : Guard) where
             (normal_steady (character_of v) vs r.1 h),
       )
 
-  -- ---- where all is kept, too
+  -- ---- if all is kept, too
 
   abbrev pub IsSteady : List (Value A) → Type 0
   IsSteady vs = (keeps_all u ≡ true) ⊎ AreSteady u None vs

@@ -1,4 +1,4 @@
--- What text, renditions and links leave changed is given back by renditions and links alone.
+-- Renditions and links alone undo the changes that text, renditions and links leave.
 use Rattle.std.proofs.Common.{◌≡◌, ℕ, Bool, true, false, not, ◌||◌, ◌==◌, List, [], ◌∷◌, None, refl, sym, ap, ◌∙◌, subst}
 use Rattle.std.specs.List.{list_all}
 use Rattle.std.proofs.lemmas.Bool.{and_parts, eqb-true, true≢false}
@@ -66,7 +66,7 @@ linked b t = record t { link = b }
 
 module _ {A : Type 0} (f : Value A → Bool) (most : AdmitsAtMost policy.Color f)
     (resets : AdmitsResets f) where
-  -- what gives it back is admitted
+  -- the values that undo them are admitted
   record IsTinted (t : Terminal) : Type 0 where
     rendition : Bool
     link : Bool

@@ -1,4 +1,4 @@
--- What a filter reads of what it wrote, and what it makes of that.
+-- The values that a filter reads from its own output, and those that it makes of them.
 use Rattle.std.proofs.Common.{ℕ, ◌≡◌, ◌⊎◌, inl, inr, Bool, true, false, not, ◌&&◌, if◌then◌else◌, List, [], ◌∷◌, ◌++◌, map, Option, None, refl, sym, ap, ◌∙◌, subst, append-nil}
 use Rattle.std.specs.List.{filter, list_all}
 use Rattle.std.proofs.lemmas.Bool.{and_parts, true≢false}
@@ -31,7 +31,7 @@ use Rattle.esc_idempotent.proofs.Singles.{is_single, meaning_single}
 use Rattle.esc_idempotent.proofs.Steady.{IsSteady, is_still, steady_is, steady_more, steady_normal, written_steady}
 use Rattle.esc_idempotent.specs.Again.{AdmitsInstead, AdmitsItsClosing, IsKept}
 
--- ---- what holds of values holds of what is written of them
+-- ---- a fact about values is one about the values that are written for them
 
 return_is : (c : ControlCode) → is_return c ≡ true → c ≡ CarriageReturn
 return_is CarriageReturn e = refl
@@ -91,7 +91,7 @@ module _ {A : Type 0} (p : Value A → Bool)
       ∙ both p (in_guard u b v) (in_values_after u l vs) (all_guarded u b v q.0)
       (all_written u l vs q.1)
 
--- ---- what passes
+-- ---- the values that pass
 
 module _ {A : Type 0} where
   pub all_filtered : (p : Value A → Bool) (vs : List (Value A)) → list_all p (filter p vs) ≡ true
@@ -129,7 +129,7 @@ module _ {A : Type 0} where
       let y = and_parts (q v) (list_all q vs) k in
       rw (f v x.0 y.0, all_two p q r f vs x.1 y.1) refl
 
-  -- ---- what is given back
+  -- ---- the values that undo changes
 
   -- it can be written, is no character, and no line feed or carriage return
   abbrev pub is_calm : Value A → Bool
@@ -182,7 +182,7 @@ module _ {A : Type 0} where
       → list_all is_still (closing f vs) ≡ true
   back_still f vs = all_if is_calm is_still calm_still (closing f vs) (calm_back f vs)
 
-  -- ---- values that are written, where each passes
+  -- ---- values that are written, each of which passes
 
   -- of values that the predicate p passes
   pub record ArePassed (u : Guard) (p : Value A → Bool) (ws : List (Value A)) : Type 0 where
@@ -191,7 +191,7 @@ module _ {A : Type 0} where
     pub steady : IsSteady u ws
     pub writable : AreWritable ws
 
-  -- what passes again of what their text means
+  -- the values of their text that pass again
   pub record ArePassedAgain (u : Guard) (ws ns : List (Value A)) : Type 0 where
     pub text : list_text ns ≡ list_text ws
     pub steady : IsSteady u ns
@@ -215,7 +215,7 @@ module _ {A : Type 0} where
             leaves = refl;
           })
 
-  -- ---- what is written
+  -- ---- the output
 
   written_pass : (u : Guard) (f : Value A → Bool) (p : Value A → Bool)
       → ((c : ℕ) → is_shown c ≡ true → f (print c) ≡ true → p (print c) ≡ true)
@@ -240,7 +240,7 @@ module _ {A : Type 0} where
         writable = w;
       }
 
-  -- and what gives back what it leaves changed
+  -- and the values that undo the changes that it leaves
   pub closed_pass : (u : Guard) (f p : Value A → Bool) (vs : List (Value A))
       → ArePassed u (passes p) vs → list_all (passes p) (closing f vs) ≡ true
       → AreWritable (closed_values f vs) → ArePassed u (passes p) (closed_values f vs)

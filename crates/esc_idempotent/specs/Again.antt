@@ -1,4 +1,4 @@
--- What a filter does with what it wrote itself.
+-- A filter over its own output.
 use Rattle.std.specs.Prelude.{ℕ, ◌≡◌, ◌⊎◌, Bool, true, false, if◌then◌else◌, List, [], ◌∷◌, ◌++◌, Option, None, Some}
 use Rattle.std.specs.List.{list_all}
 use Rattle.esc_actions.specs.Meaning.{meaning, meaning_within}
@@ -17,23 +17,23 @@ use Rattle.esc_filter.specs.declared.policy.Policy.{Policy}
 
 -- ---- policies
 
--- whatever values a policy admits, it admits what gives back what these leave changed
+-- whatever values a policy admits, it admits the values that undo their changes
 abbrev pub AdmitsItsClosing : {A : Type 0} → (Value A → Bool) → Type 0
 AdmitsItsClosing {A} f =
     (vs : List (Value A)) → list_all f vs ≡ true → list_all f (closing f vs) ≡ true
 
--- all is written as it is, or what is written instead is text, which the policy admits
+-- all is written as it is, or the replacement is text, which the policy admits
 abbrev pub AdmitsInstead : {A : Type 0} → Guard → (Value A → Bool) → Type 0
 AdmitsInstead u f = (keeps_all u ≡ true) ⊎ IsPassedText f
 
--- where it admits a control sequence it admits the reset of renditions, and where it admits a
--- command, the end of a link
+-- if it admits a control sequence it admits the reset of renditions, and if it admits a command,
+-- the end of a link
 abbrev pub AdmitsResets : {A : Type 0} → (Value A → Bool) → Type 0
 AdmitsResets {A} f = ((c : CsiValue) → f (csi c) ≡ true → f (csi (sgr Reset)) ≡ true)
     × ((c : OperatingSystemCommand A) → f (osc c) ≡ true
     → f (osc (command.SetHyperlink None)) ≡ true)
 
--- what admits these values admits exactly those that the policy p does
+-- a filter of these values admits exactly those that the policy p admits
 abbrev pub AdmitsAs : {A : Type 0} → Policy → (Value A → Bool) → Type 0
 AdmitsAs {A} p f = (v : Value A) → f v ≡ admits p v
 
@@ -43,7 +43,7 @@ AdmitsAs {A} p f = (v : Value A) → f v ≡ admits p v
 abbrev pub IsKept : Type 0 → Option ℕ → List ℕ → Type 0
 IsKept A limit s = meaning_within {A = A} limit s ≡ meaning s
 
--- what is read of a line: without a carriage return that is a part of its end
+-- the part of a line that is read: without a carriage return that is a part of its end
 abbrev pub read_of_line : List ℕ → List ℕ
 read_of_line l = if ends_line false l then body (content l) ++ 0x0a ∷ [] else l
 

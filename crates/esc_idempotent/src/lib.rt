@@ -1,5 +1,5 @@
 // SPDX-License-Identifier: MIT
-//! Laws of filters that read what they wrote: they write it again as it is. Each holds for every
+//! Laws of filters that read their own output: they write it again as it is. Each holds for every
 //! allocator `A`, which the type of the actions names.
 #![tactic(auto)]
 
@@ -22,9 +22,10 @@ ghost use Rattle.esc_idempotent.specs.Again.{AdmitsAs, AdmitsInstead, AdmitsItsC
 use esc_filter::{lines_written, written_reads_back};
 use std::alloc::Allocator;
 
-/// A filter writes what it wrote of a stream again as it is, whatever its policy admits, where that
-/// is text or all is written as it is, and the limit of the second filter leaves nothing out. Where
-/// the stream has ended, the policy has to admit what gives back what it admits leaves changed.
+/// A filter writes its own output for a stream again as it is, whatever its policy admits, if that
+/// is text or all is written as it is, and the limit of the second filter leaves nothing out. If
+/// the stream has ended, the policy has to admit the values that undo the changes that admitted
+/// values leave.
 pub fn filters_twice<A: Allocator>()
     ensures goes_on { (u : Guard) (limit again : Option ℕ) (f : Value A → Bool)
         → AdmitsInstead u f → (s : List ℕ) → IsKept A again (passed_text_as u limit f s)
@@ -37,8 +38,8 @@ pub fn filters_twice<A: Allocator>()
     written_reads_back::<A>();
 }
 
-/// The same by lines, and where the renditions that go on are written again: none goes on over a
-/// line feed that was written.
+/// The same by lines, and if the renditions that go on are written again: none goes on over a line
+/// feed that was written.
 pub fn filters_lines_twice<A: Allocator>()
     ensures by_lines { (u : Guard) (limit again : ℕ) (f : Value A → Bool)
         → AdmitsInstead u f → AdmitsItsClosing f
@@ -55,22 +56,22 @@ pub fn filters_lines_twice<A: Allocator>()
     lines_written::<A>();
 }
 
-/// Each of the policies, and what admits exactly what it does, admits text, and what gives back
-/// what it admits leaves changed.
+/// Each of the policies, and each filter that admits exactly the same, admits text, and the values
+/// that undo the changes that admitted values leave.
 pub fn policies_close<A: Allocator>()
     ensures texts { (p : Policy) (f : Value A → Bool) → AdmitsAs p f → IsPassedText f }
     ensures closes { (p : Policy) (f : Value A → Bool) → AdmitsAs p f → AdmitsItsClosing f }
 {}
 
-/// So does one that admits no more than `Policy::Color`, where it admits the reset of renditions
-/// and the end of a link wherever it admits some.
+/// So does one that admits no more than `Policy::Color`, if it admits the reset of renditions and
+/// the end of a link wherever it admits some.
 pub fn colors_close<A: Allocator>()
     ensures { (f : Value A → Bool) → AdmitsAtMost policy.Color f → AdmitsResets f
         → AdmitsItsClosing f }
 {}
 
-/// So does a choice of groups of `Policy::Color`, where renditions that conceal text are in it only
-/// with the others; and it admits text where characters and what lays them out are in it.
+/// So does a choice of groups of `Policy::Color`, if renditions that conceal text are in it only
+/// with the others; and it admits text if characters and the controls that lay them out are in it.
 pub fn choices_close<A: Allocator>()
     ensures texts { (g : Groups) → has g group.Characters ≡ true → has g group.Layout ≡ true
         → IsPassedText {A = A} (admits_groups g) }

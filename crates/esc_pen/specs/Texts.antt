@@ -17,7 +17,7 @@ use Rattle.esc_pen.specs.declared.pen.Pen.{Pen}
 abbrev pub sequence : List ℕ → List ℕ
 sequence x = 0x1b ∷ 0x5b ∷ (x ++ 0x6d ∷ [])
 
--- one that is written where b holds
+-- one that is written if b holds
 abbrev pub flag_text : Bool → List ℕ → List ℕ
 flag_text b x = if b then sequence x else []
 

@@ -1,4 +1,5 @@
-//! The renditions that hold where a stream has come to, and the control sequences that make them.
+//! The renditions that hold at the place that a stream has come to, and the control sequences that
+//! make them.
 //!
 //! A [`Pen`] is how characters are written from here on. It keeps each rendition as the stream
 //! named it: a colour of the palette stays one. It takes no memory.

@@ -107,7 +107,7 @@ impl Pen {
         }
     }
 
-    // Takes one, where it is known.
+    // Takes one, if it is known.
     #[inline]
     fn select_optional(&mut self, rendition: Option<Rendition>)
         ensures { self.new ≡ pen_by_optional self.old rendition }
@@ -118,8 +118,8 @@ impl Pen {
     }
 }
 
-// Whether the parameters are of one rendition, where that is seen at once: a number, or the numbers
-// of a colour of the palette.
+// Whether the parameters are of one rendition, if that is seen at once: a number, or the numbers of
+// a colour of the palette.
 #[inline]
 fn is_one(params: &[CsiParam]) -> bool
     ensures { IsTrue result → selections params.now ≡ selection_of params.now ∷ [] }

@@ -1,4 +1,4 @@
--- `is_refused` at a call: what it is handed, and what a caller has of it. Assumes `Logic`.
+-- `is_refused` at a call: its arguments, and the caller's knowledge of its result. Assumes `Logic`.
 use Rattle.std.proofs.Common.{ℕ, List, [], ◌∷◌, refl}
 use seplogic.Ra.Ura.{Ura}
 use mir.Val.{Val, vptr}

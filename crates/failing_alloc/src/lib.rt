@@ -1,9 +1,9 @@
-//! What tests refuse with: an allocator that refuses exactly one request, the one whose number it
-//! is given, and a reader and a writer that are slow and fail at one call.
+//! The tools by which tests refuse: an allocator that refuses exactly one request, the one whose
+//! number it is given, and a reader and a writer that are slow and fail at one call.
 //!
-//! A test runs what it tests once for each number from 1 on, until a run meets no refusal. So each
-//! place that asks for memory is refused in turn, and the test sees what the caller is emitted and
-//! what state is left.
+//! A test runs its code once for each number from 1 on, until a run meets no refusal. So each place
+//! that asks for memory is refused in turn, and the test sees which events the caller gets and which
+//! state is left.
 #![tactic(auto)]
 
 pub mod byte_reader;
@@ -20,7 +20,8 @@ use std::cell::Cell;
 /// It is lent: `&Refusing<Global>` is an allocator and is `Copy`. A request is one for a block, for
 /// a larger one or for a smaller one. Giving a block back is no request, and is never refused.
 ///
-/// No contract can say what a cell holds, so the number that is refused is tested, and not proved.
+/// No contract can say which value a cell holds, so the number that is refused is tested, and not
+/// proved.
 pub struct Refusing<B: Allocator> {
     inner: B,
     tally: Cell<Tally>,

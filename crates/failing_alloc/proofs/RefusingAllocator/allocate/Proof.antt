@@ -1,4 +1,4 @@
--- It counts the request, and refuses it or answers what the inner allocator answers. Assumes
+-- It counts the request, and refuses it or returns the answer of the inner allocator. Assumes
 -- `Logic`.
 use Rattle.std.proofs.Common.{◌≡◌, ℕ, ◌+◌, ◌^◌, ◌<◌, Bool, true, false, List, [], ◌∷◌, Ok, Err, refl, ap, w64, Bor}
 use seplogic.Ra.Ura.{Ura}
