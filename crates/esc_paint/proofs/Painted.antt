@@ -34,7 +34,7 @@ module _ (number : Look → ℕ) (same : (a b : Look) → same_look a b ≡ true
   run_two g ps qs = ap (grid_from s g) (map-append (piece_step number) ps qs)
       ∙ in_chunks s g (map (piece_step number) ps) (map (piece_step number) qs)
 
-  -- ---- what is painted
+  -- ---- the cells that are painted
 
   abbrev pub painted_cell : Pen → Look → Content → Cell
   painted_cell p l content.Blank = blank (number (erased_look l))
@@ -53,7 +53,7 @@ module _ (number : Look → ℕ) (same : (a b : Look) → same_look a b ≡ true
 
   -- ---- states
 
-  -- where characters look so
+  -- if characters look so
   abbrev HasIn : List (List Cell) → List (List Cell) → Look → Bool → ℕ → List Cell → Grid → Type 0
   HasIn above below l here n xs g =
       Has s above below (number l) (number (erased_look l)) here n xs g
@@ -147,7 +147,7 @@ module _ (number : Look → ℕ) (same : (a b : Look) → same_look a b ≡ true
 
     -- ---- cells
 
-    -- what is left of a row, after the first column of a character of two or not
+    -- the rest of a row, after the first column of a character of two or not
     abbrev tail : Bool → ℕ → ℕ → ℕ → List Cell
     tail false l e n = replicate n (blank e)
     tail true l e zero = []
@@ -161,7 +161,7 @@ module _ (number : Look → ℕ) (same : (a b : Look) → same_look a b ≡ true
     past true = 1
     past false = 0
 
-    -- cells in place of what is left of a row
+    -- cells in place of the rest of a row
     abbrev Paints : List Cell → Type 0
     Paints xs = (w : Bool) (p : Pen) (done : List Cell) (g : Grid) → GoOn w xs
         → length done + length xs ≡ s.columns

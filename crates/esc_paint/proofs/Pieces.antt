@@ -1,4 +1,4 @@
--- What the text of a piece means, and what that does to a terminal.
+-- The meaning of the text of a piece, and its effect on a terminal.
 use Rattle.std.proofs.Common.{ℕ, suc, ◌≡◌, ◌+◌, ◌-◌, ◌<◌, ◌^◌, ◌==◌, true, false, if◌then◌else◌, List, [], ◌∷◌, ◌++◌, map, Some, refl, ap, sym, ◌∙◌, append_assoc, append-nil, arith, le-leb}
 use Rattle.std.specs.Prelude.{pos}
 use Rattle.std.specs.Fmt.{decimal}
@@ -176,7 +176,7 @@ mark_is_body = refl
 
 -- ---- pieces that make no look
 
--- a piece whose text is read as what it is
+-- a piece whose text is read as this piece
 abbrev pub Fits : Piece → Type 0
 Fits soft_reset = Unit {0}
 Fits erase_all = Unit {0}
@@ -207,7 +207,7 @@ piece_read (place r n) h = place_read r n h.0 h.1
 piece_read (character c) h = print_read c h
 piece_read (look l) h = absurd h
 
--- where the steps of a function are one, and it says nothing of looks
+-- if the steps of a function are one, and it says nothing of looks
 one_shown : (A : Type 0) (z : Size) (t : Shown) (p : Piece) (number : Look → ℕ) → Fits p
     → shown_after {A = A} z t (piece_values p)
     ≡ record t { grid = grid_by z t.grid (piece_step number p) }

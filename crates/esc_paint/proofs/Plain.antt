@@ -1,4 +1,4 @@
--- The text of a screen that looks plain is read as what it is.
+-- The text of a screen that looks plain is read as this screen.
 use Rattle.std.proofs.Common.{ℕ, zero, suc, ◌≡◌, ◌+◌, ◌<◌, ◌≤◌, Bool, true, false, List, [], ◌∷◌, ◌++◌, length, get_or, Option, None, Some, if◌then◌else◌, sym, subst, arith}
 use Rattle.esc_values.specs.Clear.{is_clear}
 use Rattle.esc_style.specs.Looks.{plain_look}

@@ -1,4 +1,4 @@
--- What steps do to one row of a screen, where the others stay.
+-- The effect of steps on one row of a screen, if the others stay.
 use Rattle.std.proofs.Common.{ℕ, ◌≡◌, ◌+◌, ◌-◌, ◌<◌, ◌≤◌, min, nat_lt, Bool, true, false, not, ◌&&◌, ◌||◌, inl, inr, List, [], ◌∷◌, ◌++◌, length, take, drop, set, get_or, replicate, if◌then◌else◌, refl, ap, sym, subst, ◌∙◌, append_assoc, append-nil, length-append, arith}
 use Rattle.std.proofs.lemmas.Bool.{cases_Bool}
 use Rattle.std.proofs.lemmas.Bool.Decides.{nat_tests}
@@ -22,7 +22,7 @@ use Rattle.esc_screen.proofs.Runs.{not_wrapped, run_is}
 
 -- ---- states
 
--- the cursor is in a row, past so many columns of it: where these are all, a wrap is pending
+-- the cursor is in a row, past so many columns of it: if these are all, a wrap is pending
 pub record IsPast (s : Size) (r n : ℕ) (c : Cursor) : Type 0 where
   pub row : c.row ≡ r
   pub column : c.column ≡ min n (s.columns - 1)
@@ -36,8 +36,8 @@ pub record Draws (l e : ℕ) (g : Grid) : Type 0 where
   pub look : g.cursor.look ≡ l
   pub erased : g.cursor.erased ≡ e
 
--- The row between others is this one; the cursor is past so many columns of it, where `here` says
--- that it is in the row.
+-- The row between others is this one; the cursor is past so many columns of it, if `here` says that
+-- it is in the row.
 pub record Has (s : Size) (above below : List (List Cell)) (l e : ℕ) (here : Bool) (n : ℕ)
     (xs : List Cell) (g : Grid) : Type 0 where
   pub within : length above < s.rows
@@ -57,7 +57,7 @@ in_row_is f above below xs g rows row =
     (get_or_at above xs below [] (length above) refl)
     ∙ set_at above xs below (f xs) (length above) refl
 
--- ---- where the cursor is
+-- ---- the place of the cursor
 
 lands : (s : Size) (n : ℕ) (g : Grid) → g.cursor.pending ≡ false → g.modes.wraps ≡ true
     → g.cursor.column + n ≤ s.columns
@@ -336,7 +336,7 @@ past_before s r n g h less =
           )
     ]
 
--- on the character that begins in a column, where the cursor comes after it
+-- on the character that begins in a column, if the cursor comes after it
 pub has_mark : (s : Size) (above below : List (List Cell)) (l e c m : ℕ) (p ys : List Cell)
     (x : Cell) (g : Grid) → Has s above below l e true (m + 1) (p ++ x ∷ ys) g
     → m < s.columns → start_of m (p ++ x ∷ ys) ≡ length p

@@ -89,7 +89,7 @@ ends_more x y xs =
     let one : length (x ∷ y ∷ xs) - 1 ≡ suc (length (y ∷ xs) - 1) = omega arith in
     ap (λ k. not (is_blank_content (get_or (x ∷ y ∷ xs) k (blank 0)).content)) one
 
--- ---- what is painted, where looks have these numbers
+-- ---- the cells that are painted, if looks have these numbers
 
 module _ (number : Look → ℕ) (same : (a b : Look) → same_look a b ≡ true
     → (number a ≡ number b) × (number (erased_look a) ≡ number (erased_look b))) (f : ℕ → Look)
@@ -263,7 +263,7 @@ module _ (number : Look → ℕ) (same : (a b : Look) → same_look a b ≡ true
   rows_at xss i less = sym (take-append-drop i xss)
       ∙ ap (λ z. take i xss ++ z) (drop_more xss i [] less)
 
-  -- what holds of each row holds of one
+  -- a fact about each row is one about one row
   one_whole : (xss : List (List Cell)) (i : ℕ) → i < length xss → AreWhole xss
       → IsWhole (get_or xss i [])
   one_whole [] i less h = absurd (omega (arith, less))
@@ -303,7 +303,7 @@ module _ (number : Look → ℕ) (same : (a b : Look) → same_look a b ≡ true
   waits true false c h = absurd (true≢false (sym h))
   waits false b c h = absurd (true≢false (sym h))
 
-  -- where a wrap is pending
+  -- if a wrap is pending
   waiting_there : (q g : Grid) → AreWhole q.rows → AllDrawn q.rows → IsFull s q.rows
       → IsOn s q.cursor → is_waiting s q ≡ true → Draws e0 e0 g
       → g.rows ≡ map painted_row q.rows

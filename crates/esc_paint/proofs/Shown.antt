@@ -1,4 +1,4 @@
--- What paints a screen makes a terminal show it.
+-- The text that paints a screen makes a terminal show it.
 use Rattle.std.proofs.Common.{ℕ, ◌≡◌, ◌<◌, true, List, [], ◌∷◌, ◌++◌, map, Option, Some, refl, ap, sym, subst, ◌∙◌, append-nil, arith}
 use Rattle.esc_frame.specs.Segments.{joined_bytes}
 use Rattle.esc_frame.specs.Stream.{IsAfterFinished}
@@ -36,7 +36,7 @@ same : (a b : Look) → same_look a b ≡ true
     → (number a ≡ number b) × (number (erased_look a) ≡ number (erased_look b))
 same a b h = (refl, refl)
 
--- ---- what stands in painted cells
+-- ---- the contents of painted cells
 
 one_content : (f : ℕ → Look) (s : Size) (p : Pen) (l : Look) (c : Content)
     → (painted_cell number same f s p l c).content ≡ c

@@ -1,4 +1,4 @@
--- What texts mean that are segments, one after another.
+-- The meaning of texts that are segments, one after another.
 use Rattle.std.proofs.Common.{ℕ, ◌≡◌, ◌+◌, ◌≤◌, nat_lt, Bool, true, false, if◌then◌else◌, List, [], ◌∷◌, ◌++◌, length, map, take, Option, inl, inr, refl, ap, sym, ◌∙◌, append-nil, arith}
 use Rattle.std.specs.Char.{encode_utf8}
 use Rattle.std.specs.List.{list_all}
@@ -24,7 +24,7 @@ use Rattle.esc_actions.specs.Meaning.{meaning_within, values_from}
 use Rattle.esc_actions.specs.Readings.{MeansItsSegments, reading_within, readings_of_each}
 use Rattle.esc_actions.specs.Values.{Value, csi, plain, print}
 
--- a text that is one segment, finished by itself, and what it means
+-- a text that is one segment, finished by itself, and its meaning
 pub record IsRead {A : Type 0} (t : List ℕ) (vs : List (Value A)) : Type 0 where
   pub segment : Segment
   pub bytes : bytes_of segment ≡ t
@@ -99,7 +99,7 @@ print_read {A} c h = let q = clear_cases c h in elim q.1 [
 
 -- ---- texts, one after another
 
--- texts with what they mean
+-- texts with their meaning
 pub data Reading (A : Type 0) : Type 0 where
   reading : List ℕ → List (Value A) → Reading A
 

@@ -9,11 +9,11 @@ use Rattle.esc_screen.specs.declared.step.Step.{Step}
 use Rattle.esc_screen.specs.declared.step.Step.TheVariants as step
 use Rattle.esc_terminal.specs.Steps.{print_step}
 
--- a character that is no control, of which a terminal makes this step
+-- a character that is no control, for which a terminal makes this step
 abbrev pub Makes : (ℕ → Step) → ℕ → Type 0
 Makes f c = (print_step c ≡ f c) × (is_clear c ≡ true)
 
--- marks, of which the second comes after the first, and others after both
+-- marks; the second comes after the first, and others after both
 abbrev pub AreMarks : Option ℕ → Option ℕ → Bool → Type 0
 AreMarks None None false = Unit {0}
 AreMarks (Some c) None false = Makes step.Mark c

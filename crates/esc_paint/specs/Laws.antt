@@ -1,4 +1,4 @@
--- What holds of a screen that is painted.
+-- The facts about a screen that is painted.
 use Rattle.std.specs.Prelude.{ℕ, ◌≡◌, ◌≤◌, ◌++◌, List, [], ◌∷◌, map}
 use Rattle.esc_frame.specs.Stream.{IsAtGround}
 use Rattle.esc_style.specs.Looks.{plain_look}
@@ -12,7 +12,7 @@ use Rattle.esc_terminal.specs.Streams.{Shown, shown_after, shown_of, values_of}
 use Rattle.esc_paint.specs.Drawn.{AllDrawn}
 use Rattle.esc_paint.specs.Painting.{is_waiting, painted}
 
--- what stands in the cells of rows
+-- the contents of the cells of rows
 abbrev pub contents_of : List (List Cell) → List (List Content)
 contents_of rows = map (map (λ x. x.content)) rows
 
@@ -35,15 +35,15 @@ pub record IsPaintable (f : ℕ → Look) (s : Size) (g : Grid) : Type 0 where
   pub drawn : AllDrawn g.rows
   pub plain : AllLookPlain f g.rows
 
--- the same stands in the cells of two grids, and the cursor is in the same place; a wrap is pending
--- in the second one, where one is in the first after a character
+-- the cells of two grids have the same contents, and the cursor is in the same place; a wrap is
+-- pending in the second one, if one is in the first after a character
 pub record ShowsSame (s : Size) (g h : Grid) : Type 0 where
   pub contents : contents_of h.rows ≡ contents_of g.rows
   pub row : h.cursor.row ≡ g.cursor.row
   pub column : h.cursor.column ≡ g.cursor.column
   pub pending : h.cursor.pending ≡ is_waiting s g
 
--- what paints a grid makes any terminal of its size show it, whatever that shows
+-- the text that paints a grid makes any terminal of its size show it, whatever that shows
 abbrev pub Paints : Type 0 → Type 0
 Paints A = (f : ℕ → Look) (s : Size) (t : Shown) (g : Grid) → IsSound s t.grid
     → IsPaintable f s g
@@ -54,7 +54,7 @@ abbrev pub PaintsNew : Type 0 → Type 0
 PaintsNew A = (f : ℕ → Look) (s : Size) (g : Grid) → IsPaintable f s g
     → ShowsSame s g (shown_of A s (painted f s g)).grid
 
--- and one that was fed a stream of which nothing is unfinished
+-- and one that was fed a stream with nothing unfinished
 abbrev pub PaintsOver : Type 0 → Type 0
 PaintsOver A = (f : ℕ → Look) (s : Size) (b : List ℕ) (g : Grid) → IsAtGround b
     → IsPaintable f s g

@@ -23,7 +23,7 @@ first_pen = record {
 
 -- ---- cells
 
--- the cursor goes to a row and a column, where it is not there
+-- the cursor goes to a row and a column, if it is not there
 abbrev pub placed : Bool → ℕ → ℕ → List Piece
 placed here r n = if here then [] else place r n ∷ []
 
@@ -48,7 +48,7 @@ drawn_pieces r n p c m l =
 abbrev pub pen_drawn : Look → Pen → Pen
 pen_drawn l p = record p { here = true; look = l }
 
--- a blank cell: what is left of the row is erased, where it looks otherwise
+-- a blank cell: the rest of the row is erased, if it looks otherwise
 abbrev pub blank_pieces : ℕ → ℕ → Pen → Look → List Piece
 blank_pieces r n p b = if same_look p.back b then []
     else placed p.here r n ++ (looked p.look b ++ (erase_right ∷ []))
@@ -61,7 +61,7 @@ pen_blank b p = if same_look p.back b then record p { here = false }
       back = b;
     }
 
--- what stands in a cell; the second column of a character came with the first
+-- the content of a cell; the second column of a character came with the first
 abbrev pub content_pieces : ℕ → ℕ → Pen → Look → Content → List Piece
 content_pieces r n p l content.Blank = blank_pieces r n p (erased_look l)
 content_pieces r n p l (content.Narrow c m) = drawn_pieces r n p c m l
@@ -76,7 +76,7 @@ pen_by p l content.Rest = p
 
 -- ---- rows
 
--- cells from a column on, of which each looks as its number says; then characters look plain
+-- cells from a column on, each with the look of its number; then characters look plain
 abbrev pub cells_pieces : (ℕ → Look) → ℕ → ℕ → Pen → List Cell → List Piece
 cells_pieces f r n p [] = looked p.look plain_look
 cells_pieces f r n p (x ∷ xs) = content_pieces r n p (f x.look) x.content
@@ -110,7 +110,7 @@ abbrev pub is_waiting : Size → Grid → Bool
 is_waiting s g = g.cursor.pending && (g.cursor.column + 1 == s.columns)
     && ends_drawn (row_of_cursor g)
 
--- the cursor goes to its place; where a wrap is pending, the row is painted again
+-- the cursor goes to its place; if a wrap is pending, the row is painted again
 abbrev pub cursor_pieces : (ℕ → Look) → Size → Grid → List Piece
 cursor_pieces f s g = if is_waiting s g then row_again f g.cursor.row (row_of_cursor g)
     else place g.cursor.row g.cursor.column ∷ []
@@ -121,6 +121,6 @@ abbrev pub paint_pieces : (ℕ → Look) → Size → Grid → List Piece
 paint_pieces f s g =
     soft_reset ∷ erase_all ∷ (rows_pieces f g.rows 0 s.rows ++ cursor_pieces f s g)
 
--- the text that paints a grid of this size, of which the numbers of cells stand for these looks
+-- the text that paints a grid of this size, if the numbers of cells stand for these looks
 abbrev pub painted : (ℕ → Look) → Size → Grid → List ℕ
 painted f s g = pieces_text (paint_pieces f s g)

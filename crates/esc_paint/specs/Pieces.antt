@@ -1,4 +1,4 @@
--- What a screen is painted with: its text, and what it does to a screen.
+-- The pieces that paint a screen: their text, and their effect on a screen.
 use Rattle.std.specs.Prelude.{ℕ, ◌+◌, List, [], ◌∷◌, ◌++◌, codes}
 use Rattle.std.specs.Char.{encode_utf8}
 use Rattle.std.specs.Fmt.{decimal}
@@ -38,7 +38,7 @@ piece_text (look l) = look_text l
 abbrev pub pieces_text : List Piece → List ℕ
 pieces_text ps = flat_map piece_text ps
 
--- what it does, where looks have these numbers
+-- its effect, if looks have these numbers
 abbrev pub piece_step : (Look → ℕ) → Piece → Step
 piece_step number soft_reset = step.Set setting.SoftReset
 piece_step number erase_all = step.Edit change.EraseAll

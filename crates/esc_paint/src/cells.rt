@@ -16,7 +16,7 @@ use esc_terminal::Styles;
 use fallible_alloc::{push_char, push_str};
 use std::alloc::{AllocError, Allocator};
 
-// How a blank cell looks, where characters look so: it has the background.
+// The look of a blank cell, if characters look so: it has the background.
 fn erased_look(look: &Look) -> Look
     ensures { result ≡ erased_look look.now }
 {
@@ -58,7 +58,7 @@ fn push_drawn<A: Allocator>(
     push_marks(text, marks)
 }
 
-// Appends what makes the rest of a row blank, where it looks otherwise.
+// Appends the text that makes the rest of a row blank, if it looks otherwise.
 #[tactic(auto, using(crate::proofs::Writing::blank_text))]
 fn push_blank<A: Allocator>(
     text: &mut String<A>,
@@ -80,7 +80,7 @@ fn push_blank<A: Allocator>(
     push_str(text, "\x1b[K")
 }
 
-// Appends what stands in a cell.
+// Appends the content of a cell.
 fn push_content<A: Allocator>(
     text: &mut String<A>,
     pen: &Pen,

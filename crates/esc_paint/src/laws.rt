@@ -1,11 +1,12 @@
-//! What holds of screens that are painted, for every allocator `A`, which the type of the actions
+//! The facts about screens that are painted, for every allocator `A`, which the type of the actions
 //! names.
 ghost use Rattle.esc_paint.specs.Laws.{Paints, PaintsNew, PaintsOver};
 
 use std::alloc::Allocator;
 
-/// What paints a screen makes any terminal of its size show it: the same stands in its cells, and
-/// its cursor is in the same place, whatever the terminal shows. The characters have to look plain.
+/// The text that paints a screen makes any terminal of its size show it: its cells have the same
+/// contents, and its cursor is in the same place, whatever the terminal shows. The characters have
+/// to look plain.
 pub fn paints<A: Allocator>()
     ensures { Paints A }
 {
@@ -19,7 +20,7 @@ pub fn paints_new<A: Allocator>()
     paints::<A>();
 }
 
-/// And so does a terminal that was fed a stream of which nothing is unfinished.
+/// And so does a terminal that was fed a stream with nothing unfinished.
 pub fn paints_over<A: Allocator>()
     ensures { PaintsOver A }
 {

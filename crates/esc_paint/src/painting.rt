@@ -56,7 +56,7 @@ fn push_rows<A: Allocator, B: Allocator>(
     Ok(())
 }
 
-// Appends what brings the cursor to its place.
+// Appends the text that brings the cursor to its place.
 #[tactic(auto, using(crate::proofs::Writing::cursor_again, crate::proofs::Writing::cursor_there))]
 fn push_cursor<A: Allocator, B: Allocator>(
     text: &mut String<A>,

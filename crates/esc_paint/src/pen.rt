@@ -1,13 +1,13 @@
-//! What holds between two cells of a row.
+//! The state between two cells of a row.
 ghost use Rattle.std.specs.Prelude.{◌≡◌};
 ghost use Rattle.esc_paint.specs.Painting.{first_pen};
 
 use esc_style::Look;
 
-/// What holds between two cells of a row.
+/// The state between two cells of a row.
 #[derive(Clone, Copy)]
 pub struct Pen {
-    /// Whether the cursor is where the next one comes.
+    /// Whether the cursor is at the place of the next cell.
     pub here: bool,
     /// How characters look that come.
     pub look: Look,

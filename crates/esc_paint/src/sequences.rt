@@ -30,7 +30,7 @@ pub(crate) fn push_place<A: Allocator>(
     push_str(text, "H")
 }
 
-/// Appends the same where the cursor is not there.
+/// Appends the same if the cursor is not there.
 #[tactic(auto, using(crate::proofs::Writing::one_piece))]
 pub(crate) fn push_placed<A: Allocator>(
     text: &mut String<A>,
@@ -50,7 +50,7 @@ pub(crate) fn push_placed<A: Allocator>(
     }
 }
 
-/// Appends what makes a look where another holds.
+/// Appends the text that makes a look when another holds.
 #[tactic(auto, using(crate::proofs::Writing::looked_text))]
 pub(crate) fn push_looked<A: Allocator>(
     text: &mut String<A>,
@@ -64,7 +64,7 @@ pub(crate) fn push_looked<A: Allocator>(
     esc_sgr::push_change(text, from, to)
 }
 
-// Appends a mark, where there is one.
+// Appends a mark, if there is one.
 #[tactic(auto, using(crate::proofs::Writing::mark_is))]
 fn push_mark<A: Allocator>(text: &mut String<A>, mark: Option<char>) -> Result<(), AllocError>
     ensures ok { OnOk result (string_bytes text.new

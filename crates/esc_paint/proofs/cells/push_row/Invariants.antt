@@ -4,7 +4,7 @@ use Rattle.esc_paint.specs.Painting.{cells_pieces, row_pieces}
 use Rattle.esc_paint.specs.Pieces.{pieces_text}
 use Rattle.esc_paint.proofs.cells.push_row.Given as goal
 
--- with what is left it is the text of all
+-- with the rest it is the text of all
 abbrev pub invariant-loop-column : goal.invariant-loop-column
 invariant-loop-column g l = string_bytes l.text
     ++ pieces_text (cells_pieces (λ n. known_look n (known_of l.styles)) l.row l.column l.pen

@@ -1,4 +1,4 @@
--- What comes after a stream goes on from what is shown of it.
+-- The bytes after a stream go on from the screen of the stream.
 use Rattle.esc_paint.proofs.Shown.{paints_over}
 use Rattle.esc_paint.proofs.laws.paints_over.Goals as goal
 

@@ -5,7 +5,7 @@ use Rattle.esc_paint.specs.Painting.{rows_pieces}
 use Rattle.esc_paint.specs.Pieces.{pieces_text}
 use Rattle.esc_paint.proofs.painting.push_rows.Given as goal
 
--- with what is left it is the text of all
+-- with the rest it is the text of all
 abbrev pub invariant-loop-row : goal.invariant-loop-row
 invariant-loop-row g l =
     let f = λ (n : ℕ). known_look n (known_of l.styles) in
