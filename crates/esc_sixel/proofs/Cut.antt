@@ -63,7 +63,7 @@ pixels_split : (t : List ℕ) → pixels_bytes (first_pixels t) ++ without_pixel
 pixels_split [] = refl
 pixels_split (b ∷ bs) = pixels_by b bs (class_of b) refl
 
--- what the items of a place begin with
+-- the beginning of the items of a place
 abbrev rest_of : Place → List ℕ → List ℕ
 rest_of Outside s = s
 rest_of InRun s = after_run s

@@ -78,7 +78,7 @@ number_pushed p k ds n five room some h e =
     digits_pushed ds (open_at p k) (open_at p (written k n)) introducer.Color refl five (λ t.
     room) h (ap (open_at p) is)
 
--- what the five numbers give
+-- the colour that the five numbers give
 pub defines : (r : List ℕ) (n x y z : ℕ) → n < 10000
     → Keeps (holding (Some n) (Some 2) (Some x) (Some y) (Some z) 4) r
     → DefineColorMapRGB n (percent x, percent y, percent z) ≡ color_of r

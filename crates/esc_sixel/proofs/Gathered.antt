@@ -49,7 +49,7 @@ one_more ds at d is lt =
     ∙ flat_map_more data_text [] (take at ds) (get_or ds at d)
     ∙ ap content_text (sym (take_more ds at d lt))
 
--- where data that can be written is left, some of it is gathered
+-- if data that can be written is left, some of it is gathered
 pub stuck : (ds : List SixelData) (at : ℕ) → at < length ds → list_all is_sixel ds ≡ true
     → (0 < length (take (length ds - at) (drop at ds))
     → list_all is_sixel (take (length ds - at) (drop at ds)) ≡ false)

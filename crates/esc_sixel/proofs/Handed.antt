@@ -1,4 +1,4 @@
--- What is read of any data, after parameters that are not negative, can be written.
+-- The image that is read from any data, after parameters that are not negative, can be written.
 use Rattle.std.proofs.Common.{◌≡◌, ℕ, ℤ, pos, negsuc, ◌*◌, ◌^◌, ◌<◌, ◌==◌, min, nat_lt, nat_le, Bool, true, false, if◌then◌else◌, List, [], ◌∷◌, ◌++◌}
 use Rattle.std.proofs.Common.{get_or, Option, Some, None, refl, arith, inl, inr}
 use Rattle.std.specs.List.{flat_map, list_any, slice_get}
@@ -81,7 +81,7 @@ items_after t (i ∷ is) h = elim (cases_Bool (list_any t (i ∷ is))) [
   | inr e ↦ rw e h
 ]
 
--- what they give
+-- the colour that they give
 channel_is : (p : ℕ) → IsChannel (percent p)
 channel_is p = (min p 100, omega arith, omega arith)
 

@@ -26,7 +26,7 @@ pub record Means (pan pad : ℤ) (m : List ℕ) : Type 0 where
   pub pan_is : pos (pan_number number) ≡ pan
   pub pad_is : pos 1 ≡ pad
 
--- the first parameter that is written, where one is
+-- the first parameter that is written, if one is
 abbrev pub MeansIn : ℤ → ℤ → Option (List ℕ) → Type 0
 MeansIn pan pad None = Unit {0}
 MeansIn pan pad (Some m) = Means pan pad m
@@ -143,7 +143,7 @@ params_first d v t g other value h =
     rw other (ap (λ k. pos k ∷ map number_of_slice (slice_split semi (background_text t g))) value
     ∙ ap (λ r. pos v ∷ r) (background_numbers t g h))
 
--- what they say
+-- their meaning
 pub flag_back : (v : ℕ) (t : Bool) (g : Option ℤ)
     → is_one (slice_get (pos v ∷ flag_number t ∷ grid_list g) 1) ≡ t
 flag_back v true g = refl

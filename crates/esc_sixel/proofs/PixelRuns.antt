@@ -25,7 +25,7 @@ prefix_same p q h [] f = refl
 prefix_same p q h (x ∷ xs) (f, fs) =
     rw (agree_below_at p q 256 x h f.fits, prefix_same p q h xs fs) refl
 
--- the lowest lane whose top bit is set, where the lanes were computed from bytes
+-- the lowest lane whose top bit is set, if the lanes were computed from bytes
 pub lowest_lane : (q : ℕ → Bool) (f : ℕ → ℕ) (z bytes : List ℕ) (at n : ℕ) → at + n ≤ length bytes
     → n ≤ 64 → ((k : ℕ) → Fits w8 (get_or bytes k 0))
     → agree_below (λ x. not (top 7 (f x))) q 256 ≡ true → z ≡ map f (take n (drop at bytes))
@@ -73,12 +73,12 @@ one_more xs i lt a low high =
     (All-append IsPixels (take i xs) (get_or xs i 0 ∷ []) a
     (All-cons IsPixels _ [] one (All-nil IsPixels)))
 
--- what such a byte is
+-- the class of such a byte
 pub pixels_class : (b : ℕ) → IsPixels b → class_of b ≡ Pixels (b - 0x3f)
 unfolding class_of
 pixels_class b h = grind (arith, nat_tests)
 
--- the last of a list in place of what was pushed
+-- the last of a list in place of the one that was pushed
 pub last_set : {X : Type 0} (xs ys : List X) (y z : X) (n : ℕ) → ys ≡ xs ++ y ∷ [] → n ≡ length xs
     → slice_set ys n z ≡ xs ++ z ∷ []
 last_set xs ys y z n e l = rw (e, l) (set-append_seam xs y [] z)

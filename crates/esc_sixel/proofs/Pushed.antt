@@ -55,7 +55,7 @@ folds_one R p xs at q r lt e one =
     subst (λ z. FoldsTo R p z r) (sym (take_more xs at 0 lt))
     (folds_join R p (take at xs) (get_or xs at 0 ∷ []) q r e (r, one, refl))
 
--- what a run of bytes leads to
+-- the builder after a run of bytes
 pub run_leads : {A : Type 0} (ps : List ℤ) (s : List ℕ) (bs : List ℕ) (p q : SixelBuilder A)
     → FoldsTo Pushes p bs q → HasConsumed ps s p → HasConsumed ps (s ++ bs) q
 run_leads ps s [] p q e h =

@@ -1,4 +1,4 @@
--- The items of data that is written, and what they give.
+-- The items of data that is written, and the data that they give.
 use Rattle.std.proofs.Common.{◌≡◌, ℕ, ◌+◌, ◌-◌, ◌^◌, ◌<◌, min, Bool, true, false, ◌&&◌, ◌||◌, List, [], ◌∷◌, ◌++◌, map, codes}
 use Rattle.std.proofs.Common.{Option, Some, None, refl, ap, ◌∙◌, append_assoc, append-nil, arith, lt-ltb, inl, inr}
 use Rattle.std.specs.List.{flat_map, list_all, list_any}
@@ -217,7 +217,7 @@ hsl_slices n h l s w =
       ),
     )
 
--- what the items give
+-- the data that the items give
 channel_back : (c : ℕ) → IsChannel c → percent (capped_at_i64 (least_percent c)) ≡ c
 channel_back c h = let low = h.1 in let is = h.2 in omega (arith, low, is)
 

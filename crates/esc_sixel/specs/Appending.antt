@@ -1,4 +1,4 @@
--- Slices of data that are appended where there is room. Only private contracts cite it.
+-- Slices of data that are appended if there is room. Only private contracts cite it.
 use Rattle.std.specs.Prelude.{ℕ, ◌≡◌, ◌+◌, ◌≤◌, List, ◌++◌, Vec, length, take, vec_capacity, vec_len}
 use Rattle.std.specs.List.{All}
 use Rattle.esc_sixel.specs.Classes.{IsPixels}

@@ -1,4 +1,4 @@
--- What a byte is to sixel data.
+-- The class of a byte in sixel data.
 use Rattle.std.specs.Prelude.{ℕ, ◌≡◌, ◌-◌, ◌==◌, Bool, true, nat_lt, if◌then◌else◌}
 use Rattle.std.specs.Int.{w64, trailing_zeros}
 use Rattle.esc_values.specs.Params.{is_digit, is_from}

@@ -9,7 +9,7 @@ use Rattle.esc_sixel.specs.declared.sixel_data.SixelData.TheVariants.{Data, Repe
 abbrev pub u32_max : ℕ
 u32_max = 4294967295
 
--- how wide the line is after a slice of data, where it was n wide
+-- the width of the line after a slice of data, if it was n wide
 abbrev pub line_after : ℕ → SixelData → ℕ
 line_after n (Data v) = n + 1
 line_after n (Repeat v c) = n + c
@@ -22,14 +22,13 @@ ends_line CarriageReturn = true
 ends_line NewLine = true
 ends_line d = false
 
--- the width of the widest line, where the first is n wide already
+-- the width of the widest line, if the first is n wide already
 abbrev pub widest_after : ℕ → List SixelData → ℕ
 widest_after n [] = n
 widest_after n (d ∷ ds) =
     if ends_line d then max n (widest_after 0 ds) else widest_after (line_after n d) ds
 
--- the number of the last band with a sixel, where the first band is number b, and f is the last so
--- far
+-- the number of the last band with a sixel, if the first band is number b, and f is the last so far
 abbrev pub band_after : ℕ → SixelData → ℕ
 band_after b NewLine = b + 1
 band_after b d = b
@@ -43,11 +42,11 @@ abbrev pub last_band : ℕ → ℕ → List SixelData → ℕ
 last_band b f [] = f
 last_band b f (d ∷ ds) = last_band (band_after b d) (found_after b f d) ds
 
--- the width and height of what data draws
+-- the width and height of the drawing of data
 abbrev pub measured_size : List SixelData → ℕ × ℕ
 measured_size ds = (min (widest_after 0 ds) u32_max, min (6 * last_band 1 0 ds) u32_max)
 
--- the sizes of the raster attributes, where both are there; else those of what the data draws
+-- the sizes of the raster attributes, if both are there; else those of the drawing of the data
 abbrev pub dimensions_by : Option ℕ → Option ℕ → List SixelData → ℕ × ℕ
 dimensions_by (Some w) (Some h) ds = (w, h)
 dimensions_by w h ds = measured_size ds

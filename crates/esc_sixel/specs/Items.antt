@@ -33,7 +33,7 @@ abbrev pub run_of : List ℕ → List ℕ
 run_of [] = []
 run_of (b ∷ bs) = if in_run (class_of b) then b ∷ run_of bs else []
 
--- what follows it
+-- the rest after it
 abbrev pub after_run : List ℕ → List ℕ
 after_run [] = []
 after_run (b ∷ bs) = if in_run (class_of b) then after_run bs else b ∷ bs
@@ -43,7 +43,7 @@ abbrev pub first_pixels : List ℕ → Option ℕ
 first_pixels [] = None
 first_pixels (b ∷ bs) = pixels_of (class_of b)
 
--- where a byte is: in no run, in the run of a `!` or directly after it, in the run of another
+-- the place of a byte: in no run, in the run of a `!` or directly after it, in the run of another
 -- introducer
 pub data Place : Type 0 where
   Outside : Place
@@ -65,7 +65,7 @@ begun_place c = Outside
 abbrev pub place_after : Place → Class → Place
 place_after p c = if in_run c then p else begun_place c
 
--- the item that a byte begins, where these bytes follow it
+-- the item that a byte begins, if these bytes follow it
 abbrev pub item_of : Class → ℕ → List ℕ → Item
 item_of Return b bs = OfReturn
 item_of Line b bs = OfLine

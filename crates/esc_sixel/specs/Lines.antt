@@ -1,4 +1,4 @@
--- What the parts of a line of pixels give.
+-- The data that the parts of a line of pixels give.
 use Rattle.std.specs.Prelude.{ℕ, ◌≡◌, ◌<◌, ◌≤◌, ◌+◌, ◌-◌, ◌*◌, ◌⊎◌, List, [], ◌∷◌, None, drop, length, slice_index, take}
 use Rattle.std.specs.List.{All}
 use Rattle.esc_values.specs.Params.{capped_at_i64}
@@ -26,10 +26,10 @@ pub record NumberBefore (xs : List ℕ) (at b n k : ℕ) : Type 0 where
   pub within : at + k < length xs
   pub mark : slice_index xs (at + k) ≡ b
 
--- parameters of which nothing has come
+-- parameters before anything has come
 abbrev pub fresh : Parameters
 fresh = record { values = None ∷ None ∷ None ∷ None ∷ None ∷ []; count = 0 }
 
--- a byte that ends a line, and what it gives
+-- a byte that ends a line, and the data that it gives
 abbrev pub Ends : ℕ → SixelData → Type 0
 Ends b d = ((b ≡ 0x24) × (d ≡ CarriageReturn)) ⊎ ((b ≡ 0x2d) × (d ≡ NewLine))

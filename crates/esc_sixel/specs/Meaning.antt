@@ -1,4 +1,4 @@
--- What the parameters of a header and the items of data mean.
+-- The meaning of the parameters of a header and of the items of data.
 use Rattle.std.specs.Prelude.{ℕ, ℤ, pos, negsuc, map, ◌-◌, ◌*◌, ◌/◌, ◌^◌, ◌==◌, nat_lt, nat_le, min, Bool, false, not, ◌&&◌, if◌then◌else◌, List, [], ◌∷◌}
 use Rattle.std.specs.Prelude.{Option, Some, None, option_map, unwrap_or}
 use Rattle.std.specs.Option.{is_some}
@@ -27,17 +27,16 @@ abbrev pub is_one : Option ℤ → Bool
 is_one (Some (pos n)) = n == 1
 is_one z = false
 
--- parameter k of raster attributes as a size, where it is there and has 32 bits
+-- parameter k of raster attributes as a size, if it is there and has 32 bits
 abbrev pub size_of : List ℕ → ℕ → Option ℕ
 size_of run k = and_then (param run k) (λ n. some_if (nat_lt n (2 ^ 32)) n)
 
--- the width and the height, where both are there and their product is at most 100,000,000
+-- the width and the height, if both are there and their product is at most 100,000,000
 abbrev pub sizes_of : List ℕ → Option (ℕ × ℕ)
 sizes_of run = and_then (size_of run 2) (λ w.
     and_then (size_of run 3) (λ h. some_if (nat_le (w * h) 100000000) (w, h)))
 
--- what raster attributes say of pan, pad and sizes; the sizes only where they have three `;` or
--- more
+-- the pan, pad and sizes of raster attributes; the sizes only if they have three `;` or more
 abbrev pub raster_pan : Item → Option ℤ
 raster_pan (OfRaster run) = Some (pos (unwrap_or (param run 0) 2))
 raster_pan i = None
@@ -84,7 +83,7 @@ repeat_of run v = Repeat v (min (unwrap_or (param run 0) 1) 4294967295)
 abbrev pub drawn_data : List ℕ → List SixelData
 drawn_data run = map (λ b. Data (b - 0x3f)) run
 
--- what an item adds to the data
+-- the data that an item adds
 abbrev pub gives : Item → List SixelData
 gives OfReturn = CarriageReturn ∷ []
 gives OfLine = NewLine ∷ []
@@ -95,19 +94,19 @@ gives (OfColor run) = color_of run ∷ []
 gives (OfRaster run) = []
 gives (OfJunk b) = []
 
--- what the last item of which f is something says; x where there is none
+-- the value of f for the last item that has one; x if there is none
 abbrev pub last_of : {X : Type 0} → (Item → Option X) → X → List Item → X
 last_of f x [] = x
 last_of f x (i ∷ is) = last_of f (unwrap_or (f i) x) is
 
--- the items after the last that passes the test; all where none does
+-- the items after the last that passes the test; all if none does
 abbrev pub after_last : (Item → Bool) → List Item → List Item
 after_last t [] = []
 after_last t (i ∷ is) = if list_any t (i ∷ is) then after_last t is else i ∷ is
 
 -- The image of a header's parameters and the items of the data. Pan and pad are those of the last
 -- raster attributes, and the sizes those of the last that have sizes or are oversize. The data is
--- what the items after the last oversize ones give.
+-- given by the items after the last oversize ones.
 abbrev pub sixel_of : {A : Type 0} → List ℤ → List Item → Sixel A
 sixel_of ps is = record {
   pan = last_of raster_pan (header_pan ps) is;

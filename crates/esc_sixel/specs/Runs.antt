@@ -1,17 +1,17 @@
--- The parameters of a command: what its run of digits and `;` says.
+-- The parameters of a command: those of its run of digits and `;`.
 use Rattle.std.specs.Prelude.{ℕ, ◌+◌, ◌*◌, ◌<◌, ◌≡◌, ◌-◌, ◌==◌, min, if◌then◌else◌, List, [], ◌∷◌, get_or, set, Option, Some, None, option_map, unwrap_or}
 use Rattle.esc_values.specs.Params.{capped_at_i64}
 use Rattle.esc_sixel.specs.declared.parameters.Parameters.{Parameters}
 
 -- The numbers of the slices between `;`, none for an empty slice. The first slice goes on one that
--- began before the run, of which n is the number, if it had digits.
+-- began before the run, if it had digits; n is its number.
 abbrev pub numbers_after : Option ℕ → List ℕ → List (Option ℕ)
 numbers_after n [] = n ∷ []
 numbers_after n (b ∷ bs) = if b == 0x3b then n ∷ numbers_after None bs else numbers_after
     (Some (10 * unwrap_or n 0 + (b - 0x30))) bs
 
 -- parameter k of a run, the first being 0, at most the greatest number of 64 bits with a sign; none
--- where it is missing or empty
+-- if it is missing or empty
 abbrev pub param : List ℕ → ℕ → Option ℕ
 param run k = option_map capped_at_i64 (get_or (numbers_after None run) k None)
 

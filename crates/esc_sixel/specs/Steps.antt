@@ -1,5 +1,5 @@
 -- One byte more of sixel data: the items that no later byte changes, and the command that may go
--- on. Only the builder is stated by it; what data means is in Items and Meaning.
+-- on. Only the builder is stated by it; the meaning of data is in Items and Meaning.
 use Rattle.std.specs.Prelude.{ℕ, ℤ, ◌≡◌, Bool, true, false, if◌then◌else◌, List, [], ◌∷◌, ◌++◌, Option, Some, None, option_map, unwrap_or, option_to_list}
 use Rattle.std.specs.List.{flat_map}
 use Rattle.esc_sixel.specs.Classes.{class_of}
@@ -78,7 +78,7 @@ abbrev pub with_items : {A : Type 0} → Sixel A → List Item → Sixel A
 with_items s [] = s
 with_items s (i ∷ is) = with_items (with_item s i) is
 
--- the image with one more slice of data, where there is one
+-- the image with one more slice of data, if there is one
 abbrev pub add_to : {A : Type 0} → Sixel A → Option SixelData → Sixel A
 add_to s next = record s { content = s.content ++ option_to_list next }
 
@@ -94,15 +94,15 @@ is_data Line = true
 is_data (Pixels v) = true
 is_data c = false
 
--- whether the end of a command gives data, with what the byte after it gives, if any: a `#` gives
+-- whether the end of a command gives data, with the data of the byte after it, if any: a `#` gives
 -- a colour, and a `!` and a `"` nothing
 abbrev pub gives_at_end : Introducer → Bool → Bool
 gives_at_end introducer.Color more = true
 gives_at_end m more = more
 
--- Whether a byte takes memory, where this command is open, or none: where it is data, or ends a
+-- Whether a byte takes memory, if this command is open, or none: it does if it is data, or ends a
 -- `#`. So no digit or `;` of a command does, and outside a `#` no byte that is dropped or begins a
--- command. It is so exactly where the items that the byte closes give data (`WantsForData`).
+-- command. It is so exactly if the items that the byte closes give data (`WantsForData`).
 abbrev pub wants_memory : Option Introducer → Class → Bool
 wants_memory None c = is_data c
 wants_memory (Some m) c = if in_run c then false else gives_at_end m (is_data c)

@@ -1,4 +1,4 @@
--- What a builder takes of the bytes that come next. Only private contracts cite it.
+-- The bytes that a builder takes of those that come next. Only private contracts cite it.
 use Rattle.std.specs.Prelude.{ℕ, ◌≡◌, ◌<◌, ◌≤◌, List, [], ◌∷◌, ◌++◌, None, get_or, length, take}
 use Rattle.std.specs.List.{FoldsTo}
 use Rattle.esc_sixel.specs.Steps.{Pushes}

@@ -35,7 +35,7 @@ data_text (SelectColorMapEntry n) = codes "#" ++ decimal n
 data_text CarriageReturn = codes "$"
 data_text NewLine = codes "-"
 
--- the same, and none where a value is over 63
+-- the same, and none if a value is over 63
 abbrev pub data_output : SixelData → Option (List ℕ)
 data_output d = if is_sixel d then Some (data_text d) else None
 
@@ -50,7 +50,7 @@ abbrev pub flag_text : Bool → List ℕ
 flag_text true = codes "1"
 flag_text false = codes "0"
 
--- the third parameter, where there is one
+-- the third parameter, if there is one
 abbrev pub grid_text : Option ℤ → List ℕ
 grid_text None = []
 grid_text (Some z) = codes ";" ++ signed_decimal z
@@ -77,8 +77,8 @@ ratio_text pan pad = signed_decimal pan ++ codes ";" ++ signed_decimal pad
 abbrev pub size_text : ℕ → Option ℕ → List ℕ
 size_text w h = decimal w ++ codes ";" ++ decimal (unwrap_or h 0)
 
--- `ESC P`, the parameters, `q`, and raster attributes: with sizes where there is a width, without
--- where no first parameter suffices
+-- `ESC P`, the parameters, `q`, and raster attributes: with sizes if there is a width, without if
+-- no first parameter suffices
 abbrev pub sized_header : {A : Type 0} → ℕ → Sixel A → List ℕ
 sized_header w s = 0x1b ∷ codes "P;" ++ background_text s.background_is_transparent
     s.horizontal_grid_size ++ codes "q\""
@@ -104,6 +104,6 @@ header_text s = header_by s.pixel_width (short_form s.pan s.pad) s
 abbrev pub sixel_text : {A : Type 0} → Sixel A → List ℕ
 sixel_text s = header_text s ++ content_text s.content
 
--- the same, and none where a value is over 63
+-- the same, and none if a value is over 63
 abbrev pub sixel_output : {A : Type 0} → Sixel A → Option (List ℕ)
 sixel_output s = if list_all is_sixel s.content then Some (sixel_text s) else None

@@ -1,4 +1,4 @@
--- Which sixel images can be written, and what their texts are.
+-- The sixel images that can be written, and their texts.
 use Rattle.std.specs.Prelude.{ℕ, ℤ, pos, negsuc, ◌≡◌, ◌<◌, ◌≤◌, ◌*◌, ◌^◌, ◌==◌, ◌||◌, Bool, true, List, [], ◌∷◌, ◌++◌, map, Option, Some, None}
 use Rattle.std.specs.List.{list_all}
 use Rattle.esc_values.specs.Clear.{parts_of}
@@ -63,8 +63,8 @@ is_parameter_byte b = is_digit b || (b == 0x3b)
 abbrev pub is_data_byte : ℕ → Bool
 is_data_byte b = is_from 0x20 0x7e b
 
--- the parameters of a header: the numbers between `;`, an empty one being 0; none where there are
--- no bytes
+-- the parameters of a header: the numbers between `;`, an empty one being 0; none if there are no
+-- bytes
 abbrev pub params_of : List ℕ → List ℤ
 params_of x = map (λ p. pos (capped_at_i64 (value_after 0 p))) (parts_of x)
 

@@ -19,7 +19,7 @@ use std::alloc::{AllocError, Allocator};
 // How many bytes are gathered at most.
 pub(crate) const ROOM: usize = 128;
 
-// The room for a slice of data: up to four numbers of ten digits, and what is between them.
+// The room for a slice of data: up to four numbers of ten digits, and the separators between them.
 const MOST: usize = 46;
 
 impl<A: Allocator> Sixel<A> {
@@ -103,8 +103,8 @@ fn put_pixels(bytes: &mut [u8; ROOM], at: usize, content: &[SixelData]) -> usize
     count
 }
 
-// Puts the text of a slice of data at this place, and returns the place after it; none where a
-// value is over 63.
+// Puts the text of a slice of data at this place, and returns the place after it; none if a value
+// is over 63.
 #[inline]
 pub(crate) fn put(bytes: &mut [u8; ROOM], at: usize, item: SixelData) -> Option<usize>
     requires { HasRoom bytes.old at 46 }

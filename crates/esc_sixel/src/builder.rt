@@ -30,18 +30,18 @@ use std::alloc::{AllocError, Allocator, Global};
 /// begin a command, which goes on as digits and `;` follow, its parameters, of which five count.
 /// Any other byte, and digits and `;` outside a command, are dropped. Numbers saturate.
 ///
-/// - `!` with six pixels directly after it repeats them, once where the count is missing; else it
+/// - `!` with six pixels directly after it repeats them, once if the count is missing; else it
 ///   gives nothing.
-/// - `#` with four `;` or more gives a colour to a number: in hue, lightness and saturation where
-///   the second parameter is 1, else
-///   in percentages of red, green and blue; 0 where one is missing. With fewer it selects a colour.
-/// - `"` sets pan, 2 where it is missing, and pad, 1 where it is. With three `;` or more it sets
-///   both sizes too; where one is
-///   missing or past `u32`, or the product is over 100,000,000, there are no sizes, and the data so
-///   far is dropped.
+/// - `#` with four `;` or more gives a colour to a number: in hue, lightness and saturation if the
+///   second parameter is 1, else in percentages of red, green and blue; 0 if one is missing. With
+///   fewer it selects a colour.
+/// - `"` sets pan, 2 if it is missing, and pad, 1 if it is. With three `;` or more it sets both
+///   sizes too; if one is missing or past `u32`, or the product is over 100,000,000, there are no
+///   sizes, and the data so far is dropped.
 #[derive(Drop)]
 pub struct SixelBuilder<A: Allocator = Global> {
-    /// The image: what was pushed means it right after a `finish` that succeeded.
+    /// The image: right after a `finish` that succeeded it is the meaning of the bytes that were
+    /// pushed.
     pub sixel: Sixel<A>,
     introducer: Option<Introducer>,
     parameters: Parameters,
@@ -107,8 +107,8 @@ impl<A: Allocator> SixelBuilder<A> {
         }
     }
 
-    /// One more byte of the data. Takes memory only where the byte is six pixels, `$` or `-`, or
-    /// ends a `#`. The error is that it was refused, and the builder stays as it was.
+    /// One more byte of the data. Takes memory only if the byte is six pixels, `$` or `-`, or ends
+    /// a `#`. The error is that it was refused, and the builder stays as it was.
     #[inline(always)]
     pub fn push(&mut self, byte: u8) -> Result<(), AllocError>
         ensures ok { (ps : List ℤ) (s : List ℕ) → HasConsumed ps s self.old
@@ -123,9 +123,10 @@ impl<A: Allocator> SixelBuilder<A> {
         }
     }
 
-    /// These bytes of the data, as `push` of each takes them. Memory for what they can give is
-    /// taken first, for up to 4096 slices of data. The error is that memory was refused; the
-    /// builder has then taken none of them, or those before the bytes that needed more of it.
+    /// These bytes of the data, with the effect of a `push` of each. Memory for the data that they
+    /// can give is taken first, for up to 4096 slices of data. The error is that memory was
+    /// refused; the builder has then taken none of them, or those before the bytes that needed more
+    /// of it.
     pub fn push_run(&mut self, bytes: &[u8]) -> Result<(), AllocError>
         ensures each { OnOk result (FoldsTo Pushes self.old bytes.now self.new) }
         ensures ok { (ps : List ℤ) (s : List ℕ) → HasConsumed ps s self.old
@@ -185,8 +186,8 @@ impl<A: Allocator> SixelBuilder<A> {
         Ok(1)
     }
 
-    // The first byte of these outside a command, where it ends a line and memory for what it gives
-    // is not refused; returns how many bytes it took.
+    // The first byte of these outside a command, if it ends a line and memory for its data is not
+    // refused; returns the number of bytes that it took.
     #[inline(always)]
     fn end_line(&mut self, rest: &[u8]) -> usize
         requires { self.old.introducer ≡ None }
@@ -208,8 +209,8 @@ impl<A: Allocator> SixelBuilder<A> {
     }
 
     // A `#` outside a command. A `#` with its number, a `!` with its count and six pixels, and the
-    // pixels after them and what ends their line, where the first come first and their numbers have
-    // up to four digits, else the `#`; returns how many bytes it took.
+    // pixels after them and the end of their line, if the first come first and their numbers have
+    // up to four digits, else the `#`; returns the number of bytes that it took.
     #[inline(always)]
     fn push_selected(&mut self, rest: &[u8]) -> Result<usize, AllocError>
         requires { ComesOutside self.old 0x23 rest.now }
@@ -240,8 +241,8 @@ impl<A: Allocator> SixelBuilder<A> {
         Ok(1)
     }
 
-    // Outside a command: a `!`, its count of up to four digits and six pixels, where these come
-    // first. Gives the pixels, and how many bytes these are.
+    // Outside a command: a `!`, its count of up to four digits and six pixels, if these come first.
+    // Gives the pixels, and the number of these bytes.
     #[inline(always)]
     fn repeated(&self, rest: &[u8]) -> Option<(SixelData, usize)>
         requires { AreOutside self.now rest.now }
@@ -264,7 +265,7 @@ impl<A: Allocator> SixelBuilder<A> {
     }
 
     // Right after a `#`: a colour's number, `2` and its percentages, of up to four digits each, and
-    // another `#`, where these come first. Gives the colour, and how many bytes these are.
+    // another `#`, if these come first. Gives the colour, and the number of these bytes.
     #[inline(always)]
     fn defined(&self, rest: &[u8]) -> Option<(SixelData, usize)>
         ensures { IfSome result (λ r. TakesFirst self.now rest.now r.1
@@ -303,7 +304,7 @@ impl<A: Allocator> SixelBuilder<A> {
 
     /// The data ends here, and a command with it: the field `sixel` is the image that the
     /// parameters and all bytes mean. To bytes that are pushed later, this counts as a byte that is
-    /// dropped. Takes memory only where a `#` is open. The error is that it was refused, and the
+    /// dropped. Takes memory only if a `#` is open. The error is that it was refused, and the
     /// builder stays as it was.
     pub fn finish(&mut self) -> Result<(), AllocError>
         ensures ok { (ps : List ℤ) (s : List ℕ) → HasConsumed ps s self.old
@@ -316,7 +317,7 @@ impl<A: Allocator> SixelBuilder<A> {
         self.push(0)
     }
 
-    // A `#` ends; `next` is what the byte after it gives.
+    // A `#` ends; `next` is the data of the byte after it.
     #[tactic(auto, using(std::proofs::Common::append_assoc))]
     fn end_color(&mut self, next: Option<SixelData>) -> Result<(), AllocError>
         ensures ok { (r : List ℕ) → Keeps self.old.parameters r
@@ -328,7 +329,7 @@ impl<A: Allocator> SixelBuilder<A> {
         self.sixel.content.push_two(color, next)
     }
 
-    // A `"` ends; `next` is what the byte after it gives.
+    // A `"` ends; `next` is the data of the byte after it.
     fn end_raster(&mut self, next: Option<SixelData>) -> Result<(), AllocError>
         ensures ok { (r : List ℕ) → Keeps self.old.parameters r
             → OnOk result (self.new.sixel ≡ add_to (with_item self.old.sixel (OfRaster r)) next) }
@@ -354,7 +355,7 @@ impl<A: Allocator> SixelBuilder<A> {
         Ok(())
     }
 
-    // A command ends; `next` is what the byte after it gives.
+    // A command ends; `next` is the data of the byte after it.
     fn end_command(
         &mut self,
         introducer: Introducer,

@@ -1,10 +1,10 @@
-//! What a byte is to sixel data.
+//! The class of a byte in sixel data.
 ghost use Rattle.std.specs.Prelude.{◌≡◌};
 ghost use Rattle.esc_sixel.specs.Classes.{class_of};
 
 use crate::introducer::Introducer;
 
-// What a byte is.
+// The class of a byte.
 #[derive(Clone, Copy, PartialEq, Eq)]
 pub(crate) enum Class {
     // `$`.
@@ -23,7 +23,7 @@ pub(crate) enum Class {
     Junk,
 }
 
-// What this byte is.
+// The class of this byte.
 #[inline]
 #[tactic(auto, unfolding(crate::specs::Classes::class_of))]
 pub(crate) fn classify(b: u8) -> Class

@@ -1,4 +1,4 @@
-//! What the parameters of a command say.
+//! The meaning of the parameters of a command.
 ghost use Rattle.std.specs.Prelude.{◌<◌, ◌≡◌, ℕ, List, min, pos, unwrap_or};
 ghost use Rattle.esc_sixel.specs.Meaning.{number, percent, size_of, color_of, repeat_of, sizes_of};
 ghost use Rattle.esc_sixel.specs.Meaning.{percent as percent_of};
@@ -8,7 +8,7 @@ use crate::parameters::Parameters;
 use crate::sixel_data::{SixelData, SixelValue};
 use esc_values::RgbColor;
 
-// Parameter `k`, 0 where it is missing, at most `u16::MAX`.
+// Parameter `k`, 0 if it is missing, at most `u16::MAX`.
 fn short(parameters: &Parameters, k: usize) -> u16
     requires { k < 5 }
     ensures { (r : List ℕ) → Keeps parameters.now r → result ≡ min (number r k) 65535 }
@@ -16,7 +16,7 @@ fn short(parameters: &Parameters, k: usize) -> u16
     parameters.get(k).unwrap_or(0).min(65535) as u16
 }
 
-// Parameter `k`, 0 where it is missing, at most `u8::MAX`.
+// Parameter `k`, 0 if it is missing, at most `u8::MAX`.
 fn byte(parameters: &Parameters, k: usize) -> u8
     requires { k < 5 }
     ensures { (r : List ℕ) → Keeps parameters.now r → result ≡ min (number r k) 255 }
@@ -42,7 +42,7 @@ pub(crate) fn channel_of(percent: u32) -> u8
     (255 * percent / 100) as u8
 }
 
-// What a `#` with these parameters gives.
+// The data of a `#` with these parameters.
 pub(crate) fn color(parameters: &Parameters) -> SixelData
     ensures { (r : List ℕ) → Keeps parameters.now r → result ≡ color_of r }
 {
@@ -66,7 +66,7 @@ pub(crate) fn color(parameters: &Parameters) -> SixelData
     }
 }
 
-// What a `!` with these parameters gives, before six pixels.
+// The data of a `!` with these parameters, before six pixels.
 pub(crate) fn repeat(parameters: &Parameters, value: SixelValue) -> SixelData
     ensures { (r : List ℕ) → Keeps parameters.now r → result ≡ repeat_of r value }
 {
@@ -76,7 +76,7 @@ pub(crate) fn repeat(parameters: &Parameters, value: SixelValue) -> SixelData
     }
 }
 
-// Parameter `k`, where it is there and has 32 bits.
+// Parameter `k`, if it is there and has 32 bits.
 fn size(parameters: &Parameters, k: usize) -> Option<u32>
     requires { k < 5 }
     ensures { (r : List ℕ) → Keeps parameters.now r → result ≡ size_of r k }
@@ -88,7 +88,7 @@ fn size(parameters: &Parameters, k: usize) -> Option<u32>
     Some(number as u32)
 }
 
-// The width and the height of raster attributes, where both have 32 bits and the image is not
+// The width and the height of raster attributes, if both have 32 bits and the image is not
 // oversize.
 pub(crate) fn sizes(parameters: &Parameters) -> Option<(u32, u32)>
     ensures { (r : List ℕ) → Keeps parameters.now r → result ≡ sizes_of r }
@@ -101,7 +101,7 @@ pub(crate) fn sizes(parameters: &Parameters) -> Option<(u32, u32)>
     Some((width, height))
 }
 
-// Parameter `k`, or `default` where it is missing.
+// Parameter `k`, or `default` if it is missing.
 pub(crate) fn signed(parameters: &Parameters, k: usize, default: u64) -> i64
     requires place { k < 5 }
     requires small { default < 10 }

@@ -13,7 +13,7 @@ pub(crate) struct Extent {
     pub(crate) line: u32,
     // The number of the current band, the first being 1.
     pub(crate) band: u32,
-    // The number of the last band that has a sixel, 0 where none has.
+    // The number of the last band that has a sixel, 0 if none has.
     pub(crate) last: u32,
 }
 
@@ -69,7 +69,7 @@ impl Extent {
     }
 }
 
-// The width and height of what the data draws.
+// The width and height of the drawing of the data.
 pub(crate) fn measure(content: &[SixelData]) -> (u32, u32)
     ensures { result ≡ measured_size content.now }
 {

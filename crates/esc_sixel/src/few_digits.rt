@@ -44,8 +44,8 @@ fn digit_of(byte: u8) -> Option<u32>
     Some(u32::from(byte - b'0'))
 }
 
-// The number of up to four digits at this place, and how many these are, where this byte comes
-// right after them.
+// The number of up to four digits at this place, and the count of these, if this byte comes right
+// after them.
 #[inline(always)]
 pub(crate) fn number_before(rest: &[u8], at: usize, mark: u8) -> Option<(u32, usize)>
     requires { at ≤ length rest.now }
@@ -59,8 +59,8 @@ pub(crate) fn number_before(rest: &[u8], at: usize, mark: u8) -> Option<(u32, us
     Some((number, digits))
 }
 
-// The number of up to four digits at this place, and how many these are, where six pixels come
-// right after them.
+// The number of up to four digits at this place, and the count of these, if six pixels come right
+// after them.
 #[inline(always)]
 pub(crate) fn count_of_pixels(rest: &[u8], at: usize) -> Option<(u32, usize)>
     requires { at ≤ length rest.now }

@@ -1,4 +1,4 @@
-//! What begins a command.
+//! The bytes that begin a command.
 
 // A byte that begins a command, whose parameters follow it.
 #[derive(Clone, Copy, PartialEq, Eq)]

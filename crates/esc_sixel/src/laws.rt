@@ -1,5 +1,5 @@
-//! Laws of sixel images: the items of data are a cut of it, what is written reads back, what is
-//! read can be written, and where a byte takes memory.
+//! Laws of sixel images: the items of data are a cut of it, an image that is written reads back,
+//! one that is read can be written, and the bytes that take memory.
 ghost use Rattle.std.specs.Prelude.{ℕ, ℤ, List};
 ghost use Rattle.esc_sixel.specs.Items.{IsCut, items};
 ghost use Rattle.esc_sixel.specs.Meaning.{sixel_of};
@@ -21,13 +21,13 @@ pub fn writes_back<A: Allocator>()
     ensures { (s : Sixel A) → IsWritable s → WritesBack s }
 {}
 
-/// What any data means after parameters that are not negative is writable.
+/// The meaning of any data after parameters that are not negative is writable.
 pub fn data_is_writable<A: Allocator>()
     ensures { (ps : List ℤ) (bs : List ℕ) → AreNatural ps
         → IsWritable (sixel_of {A = A} ps (items bs)) }
 {}
 
-/// A byte takes memory exactly where the items that it closes give data.
+/// A byte takes memory exactly if the items that it closes give data.
 #[tactic(auto, using(crate::proofs::Wanted::wants_for_data))]
 pub fn wants_for_data()
     ensures { (o : Open) (c : Class) (b : ℕ) → WantsForData o c b }

@@ -9,7 +9,7 @@ ghost use Rattle.esc_values.specs.Params.{capped_at_i64};
 // The first five parameters of a run of digits and `;`. Takes no memory.
 #[derive(Clone, Copy)]
 pub(crate) struct Parameters {
-    // The numbers, at most `i64::MAX`; none where no digit has come.
+    // The numbers, at most `i64::MAX`; none if no digit has come.
     pub(crate) values: [Option<u64>; 5],
     // How many `;` have come, at most five.
     pub(crate) count: usize,
@@ -85,7 +85,7 @@ impl Parameters {
         end
     }
 
-    // Parameter `k`, the first being 0; none where it is missing or empty.
+    // Parameter `k`, the first being 0; none if it is missing or empty.
     pub(crate) fn get(&self, k: usize) -> Option<u64>
         requires { k < 5 }
         ensures { (run : List ℕ) → Keeps self.now run → result ≡ param run k }

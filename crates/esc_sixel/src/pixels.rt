@@ -14,7 +14,7 @@ use esc_values::Items;
 use std::alloc::{AllocError, Allocator};
 use std::simd::prelude::*;
 
-// The lowest bit that is set, 16 where none is.
+// The lowest bit that is set, 16 if none is.
 #[inline(always)]
 fn lowest(mask: u64) -> usize
     ensures { result ≡ lowest mask 16 }
@@ -154,7 +154,8 @@ fn fill<A: Allocator>(vec: Vec<SixelData, A>, run: &[u8]) -> Vec<SixelData, A>
     vec
 }
 
-// What begins a line: a selected colour, six pixels so many times, and pixels, which are 3F to 7E.
+// The beginning of a line: a selected colour, six pixels so many times, and pixels, which are 3F to
+// 7E.
 #[derive(Clone, Copy)]
 pub(crate) struct Line<'a> {
     pub(crate) selected: SixelData,
@@ -162,7 +163,7 @@ pub(crate) struct Line<'a> {
     pub(crate) run: &'a [u8],
 }
 
-// Appends what begins a line. Memory for all, and for what ends it, is taken first.
+// Appends the beginning of a line. Memory for all, and for the end of the line, is taken first.
 #[inline(always)]
 fn append_line<A: Allocator>(
     items: Items<SixelData, A>,
@@ -186,7 +187,7 @@ fn append_line<A: Allocator>(
     }
 }
 
-// Appends what begins a line. The error is that memory was refused, and the items stay as they
+// Appends the beginning of a line. The error is that memory was refused, and the items stay as they
 // were.
 #[inline(always)]
 pub(crate) fn push_line<A: Allocator>(
@@ -228,7 +229,7 @@ pub(crate) fn make_room<A: Allocator>(
     replace_with(items, bytes, with_room)
 }
 
-// Appends these bytes as pixels. Memory for all, and for what ends their line, is taken first.
+// Appends these bytes as pixels. Memory for all, and for the end of their line, is taken first.
 fn append<A: Allocator>(
     items: Items<SixelData, A>,
     run: &[u8],
@@ -260,7 +261,7 @@ pub(crate) fn push_pixels<A: Allocator>(
     replace_with(items, run, append)
 }
 
-// What a byte that ends a line gives; none for another.
+// The data of a byte that ends a line; none for another.
 #[inline(always)]
 pub(crate) fn line_end(byte: u8) -> Option<SixelData>
     ensures { IfSome result (λ d. Ends byte d) }

@@ -19,13 +19,13 @@ pub struct Sixel<A: Allocator = Global> {
     pub pan: i64,
     /// A pixel is so many units wide.
     pub pad: i64,
-    /// The width in pixels, where raster attributes gave one.
+    /// The width in pixels, if raster attributes gave one.
     pub pixel_width: Option<u32>,
-    /// The height in pixels, where raster attributes gave one.
+    /// The height in pixels, if raster attributes gave one.
     pub pixel_height: Option<u32>,
-    /// Whether pixels of 0 leave what was there; else they are drawn in the background colour.
+    /// Whether pixels of 0 leave the old pixels; else they are drawn in the background colour.
     pub background_is_transparent: bool,
-    /// The horizontal grid size, where the header has one.
+    /// The horizontal grid size, if the header has one.
     pub horizontal_grid_size: Option<i64>,
     /// The data.
     pub content: Items<SixelData, A>,
@@ -34,10 +34,10 @@ pub struct Sixel<A: Allocator = Global> {
 impl<A: Allocator> Sixel<A> {
     /// Width and height in pixels.
     ///
-    /// Both sizes of the raster attributes, where both are there. Else the width of the widest line
-    /// and six times the number of the last band that has a sixel; 0 where none has. A line ends at
-    /// a carriage return and at a new line, so lines that are drawn over one another do not add up;
-    /// a band ends at a new line. Both are at most `u32::MAX`. Takes no memory.
+    /// Both sizes of the raster attributes, if both are there. Else the width of the widest line
+    /// and six times the number of the last band that has a sixel; 0 if none has. A line ends at a
+    /// carriage return and at a new line, so lines that are drawn over one another do not add up; a
+    /// band ends at a new line. Both are at most `u32::MAX`. Takes no memory.
     pub fn dimensions(&self) -> (u32, u32)
         ensures { result ≡ dimensions_of self.now }
     {
@@ -52,10 +52,10 @@ impl<A: Allocator> Sixel<A> {
 }
 
 /// Writes `ESC P`, the header and the data, without the string terminator. Pan and pad are the
-/// first parameter where one means them and no width is there, else raster attributes after the
+/// first parameter if one means them and no width is there, else raster attributes after the
 /// header; a height without a width is not written.
 ///
-/// Takes no memory. Errs where the formatter's writer errs, and where a value is over 63.
+/// Takes no memory. Errs if the formatter's writer errs, and if a value is over 63.
 impl<A: Allocator> fmt::Display for Sixel<A> {
     ghost output = { λ s. sixel_output s };
 

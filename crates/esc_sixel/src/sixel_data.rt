@@ -1,4 +1,4 @@
-//! What sixel data consists of.
+//! The items of sixel data.
 ghost use Rattle.esc_sixel.specs.Texts.{data_output};
 
 use crate::appending::{ROOM, put};
@@ -42,7 +42,7 @@ pub enum SixelData {
     },
     /// `#`: selects the colour of this number.
     SelectColorMapEntry(u16),
-    /// `$`: back to the start of the line, so that what follows is drawn over it.
+    /// `$`: back to the start of the line, so that the next pixels are drawn over it.
     CarriageReturn,
     /// `-`: to the start of the next band of six lines.
     NewLine,
@@ -51,8 +51,8 @@ pub enum SixelData {
 /// Writes the data as it comes in a sixel string. A channel of a colour is written as the least
 /// percentage that is read as no less.
 ///
-/// Takes no memory. Errs where the formatter's writer errs, and where a value is over 63; then it
-/// has written no sixel.
+/// Takes no memory. Errs if the formatter's writer errs, and if a value is over 63; then it has
+/// written no sixel.
 impl fmt::Display for SixelData {
     ghost output = { data_output };
 

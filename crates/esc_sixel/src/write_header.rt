@@ -24,7 +24,7 @@ impl Display for Flag {
     }
 }
 
-// The third parameter, where there is one, and the `;` before it.
+// The third parameter, if there is one, and the `;` before it.
 #[derive(Clone, Copy)]
 struct Grid(Option<i64>);
 
@@ -67,7 +67,7 @@ impl Display for Ratio {
     }
 }
 
-// A width and a height, as raster attributes: 0 where there is no height.
+// A width and a height, as raster attributes: 0 if there is no height.
 #[derive(Clone, Copy)]
 struct Size(u32, Option<u32>);
 
@@ -97,7 +97,7 @@ fn macro_parameter(pan: i64, pad: i64) -> Option<&'static str>
     }
 }
 
-// What comes before the data of an image.
+// The part of an image before its data.
 #[derive(Drop)]
 pub(crate) struct Header<'a, A: Allocator>(pub(crate) &'a Sixel<A>);
 
@@ -109,7 +109,7 @@ impl<'a, A: Allocator> Display for Header<'a, A> {
     }
 }
 
-// The introducer, the parameters, the final byte, and raster attributes where the parameters do not
+// The introducer, the parameters, the final byte, and raster attributes if the parameters do not
 // suffice.
 pub(crate) fn write_header<W: fmt::Write, A: Allocator>(
     sixel: &Sixel<A>,
