@@ -15,11 +15,11 @@ use std::alloc::Global;
 
 /// Writes to `out` the text of those actions of the stream `bytes` that the policy admits, as much
 /// of it as fits, and the length of all of it in bytes to `needed`. The whole text reads back as
-/// these actions, and as nothing else; a part of it need not. What the stream leaves changed at a
-/// terminal, as a rendition, is not taken back: a filter in chunks does that at its end.
+/// these actions, and as nothing else; a part of it need not. The changes that the stream leaves at
+/// a terminal, as a rendition, are not undone: a filter in chunks does that at its end.
 ///
 /// The policies are 0 text, 1 color, 2 screen and 3 all, each as [`Policy`] says; any other number
-/// is `UNKNOWN_POLICY`. Of a string with more than `limit` bytes nothing is written, as of
+/// is `UNKNOWN_POLICY`. For a string with more than `limit` bytes nothing is written, as with
 /// [`Parser::with_limit`](esc_parse::Parser::with_limit). `NO_MEMORY` says that a request for
 /// memory was refused.
 #[unsafe(no_mangle)]
@@ -38,7 +38,7 @@ pub extern "C" fn escape_stream_filter(
     filter::filter(alloc, policy, limit, bytes, out, needed)
 }
 
-/// Begins a stream, of which at most `limit` bytes are kept of a string, by the policy of this
+/// Begins a stream, with a limit of `limit` bytes that are kept of a string, by the policy of this
 /// number, as in [`escape_stream_filter`](crate::escape_stream_filter). A filter that was begun
 /// before is ended first. After another status than `DONE` it is not begun.
 #[unsafe(no_mangle)]
@@ -58,11 +58,11 @@ pub extern "C" fn escape_stream_filter_begin(
     filter_chunks::filter_begin(alloc, filter, policy, limit)
 }
 
-/// Takes the next chunk of the stream. What it adds to the text of the stream is then the text that
-/// [`escape_stream_filter_text`] gives.
+/// Takes the next chunk of the stream. The text that it adds to the text of the stream is then the
+/// text that [`escape_stream_filter_text`] gives.
 ///
-/// `NO_MEMORY` says that a request for memory was refused: the filter has ended, and what it kept
-/// was given back. `NOT_BEGUN` says that it had not begun, or had ended.
+/// `NO_MEMORY` says that a request for memory was refused: the filter has ended, and its memory was
+/// given back. `NOT_BEGUN` says that it had not begun, or had ended.
 #[unsafe(no_mangle)]
 pub extern "C" fn escape_stream_filter_feed(
     alloc: Global,
@@ -81,12 +81,12 @@ pub extern "C" fn escape_stream_filter_feed(
     filter_chunks::filter_feed(alloc, filter, bytes)
 }
 
-/// Ends the stream, and begins the next, within the same limit and by the same policy. What takes
-/// back what the stream left changed at a terminal, as [`Filter::finish`] says, is then the text
-/// that [`escape_stream_filter_text`] gives. What is unfinished is dropped.
+/// Ends the stream, and begins the next, within the same limit and by the same policy. The text
+/// that undoes the changes that the stream left at a terminal, as [`Filter::finish`] says, is then
+/// the text that [`escape_stream_filter_text`] gives. An unfinished segment is dropped.
 ///
-/// `NO_MEMORY` says that a request for memory was refused: the filter has ended, and what it kept
-/// was given back. `NOT_BEGUN` says that it had not begun, or had ended.
+/// `NO_MEMORY` says that a request for memory was refused: the filter has ended, and its memory was
+/// given back. `NOT_BEGUN` says that it had not begun, or had ended.
 #[unsafe(no_mangle)]
 pub extern "C" fn escape_stream_filter_finish(alloc: Global, filter: &mut InChunks) -> u32
     ensures finished { (limit : ℕ) (p : Policy) (s : List ℕ)
@@ -115,7 +115,7 @@ pub extern "C" fn escape_stream_filter_text(
     filter_chunks::filter_text(alloc, filter, from, out)
 }
 
-/// Ends a filter, and gives back what it kept. One that is not begun stays so.
+/// Ends a filter, and gives its memory back. One that is not begun stays so.
 #[unsafe(no_mangle)]
 pub extern "C" fn escape_stream_filter_end(alloc: Global, filter: &mut InChunks)
     ensures { IsEnded filter.new }

@@ -5,11 +5,11 @@ ghost use Rattle.esc_calls.specs.FunctionRows.{Says, SaysControl, SaysEscape, es
 use esc_calls::function;
 use esc_calls::function_row::FunctionRow;
 
-/// Writes to `out` what the function of a control sequence is, and returns whether it has a name.
-/// Where it has none, `out` is zeros.
+/// Writes to `out` the row of the function of a control sequence, and returns whether it has a
+/// name. If it has none, `out` is zeros.
 ///
-/// The sequence has this private prefix and this intermediate, each 0 where there is none, and this
-/// final byte; `count` is how many parameters and separators between them it has, which decides
+/// The sequence has this private prefix and this intermediate, each 0 if there is none, and this
+/// final byte; `count` is the number of its parameters and separators between them, which decides
 /// between the two functions that each of the final bytes `T`, `s` and `u` has.
 #[unsafe(no_mangle)]
 pub extern "C" fn escape_stream_function(
@@ -24,8 +24,8 @@ pub extern "C" fn escape_stream_function(
     function::function(private_prefix, intermediate, last, count, out)
 }
 
-/// The same of an escape sequence with this intermediate, 0 where there is none, and this final
-/// byte; of a C1 control the final byte is 40 less than its code (hexadecimal).
+/// The same for an escape sequence with this intermediate, 0 if there is none, and this final byte;
+/// for a C1 control the final byte is 40 less than its code (hexadecimal).
 #[unsafe(no_mangle)]
 pub extern "C" fn escape_stream_escape_function(
     intermediate: u8,

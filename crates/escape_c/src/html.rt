@@ -12,7 +12,7 @@ use esc_calls::in_chunks::InChunks;
 use esc_calls::{DONE, NO_MEMORY, NOT_BEGUN, page_chunks};
 use std::alloc::Global;
 
-/// Begins the page of a stream, of which at most `limit` bytes are kept of a string. With
+/// Begins the page of a stream, with a limit of `limit` bytes that are kept of a string. With
 /// `per_line` each line is HTML by itself, and with `is_inline` looks are styles alone, as a
 /// [`Layout`] says. A page that was begun before is given back first. After `NO_MEMORY` it is not
 /// begun.
@@ -32,7 +32,7 @@ pub extern "C" fn escape_stream_html_begin(
     page_chunks::html_begin(alloc, page, per_line, is_inline, limit)
 }
 
-/// Takes the next chunk of the stream. What it adds to the page is then the text that
+/// Takes the next chunk of the stream. The HTML that it adds to the page is then the text that
 /// [`escape_stream_html_text`] gives.
 ///
 /// `NO_MEMORY` says that a request for memory was refused: the page was given back. `NOT_BEGUN`
@@ -49,7 +49,7 @@ pub extern "C" fn escape_stream_html_feed(alloc: Global, page: &mut InChunks, by
     page_chunks::html_feed(alloc, page, bytes)
 }
 
-/// Ends the stream. What closes the tags that are open is then the text that
+/// Ends the stream. The tags that close those that are open are then the text that
 /// [`escape_stream_html_text`] gives: with it, the texts of all chunks, one after another, are a
 /// page. It takes no memory. `NOT_BEGUN` says that the page had not begun.
 #[unsafe(no_mangle)]
@@ -77,7 +77,7 @@ pub extern "C" fn escape_stream_html_text(
     page_chunks::html_text(alloc, page, from, out)
 }
 
-/// Gives back what a page kept. One that is not begun stays so.
+/// Gives back the memory of a page. One that is not begun stays so.
 #[unsafe(no_mangle)]
 pub extern "C" fn escape_stream_html_end(alloc: Global, page: &mut InChunks)
     ensures { IsEnded page.new }

@@ -2,10 +2,10 @@
 //! C and for programs that link C's libraries. `include/escape_stream.h` declares the calls for C.
 //!
 //! A call that takes a stream whole returns a status: `DONE`, or why nothing was written. A text
-//! goes into the caller's buffer, as much of it as fits, and its whole length into `needed`.
-//! The filter, the sanitizer, the HTML, the normal form and the screen of a stream in chunks are
-//! each an `InChunks` of the caller's. Other calls name a function or a string, or read and write
-//! commands, images and queries. The crate `esc_calls` does what each call says.
+//! goes into the caller's buffer, as much of it as fits, and its whole length into `needed`. The
+//! filter, the sanitizer, the HTML, the normal form and the screen of a stream in chunks are each
+//! an `InChunks` of the caller's. Other calls name a function or a string, or read and write
+//! commands, images and queries. The crate `esc_calls` does the work of each call.
 //!
 //! ```text
 //! const uint8_t stream[] = "a\x1b]0;a title\x07 \x1b[1;31mred";

@@ -34,7 +34,7 @@ pub extern "C" fn escape_stream_normal(
 /// Writes to `answer` whether the stream `bytes` is its own normal form: the text that
 /// [`escape_stream_normal`](crate::escape_stream_normal) writes for it.
 ///
-/// Of the normal form of a stream that means a writable list it is true. `NO_MEMORY` is the only
+/// It is true for the normal form of a stream that means a writable list. `NO_MEMORY` is the only
 /// other status.
 #[unsafe(no_mangle)]
 pub extern "C" fn escape_stream_is_normal(alloc: Global, bytes: &[u8], answer: &mut bool) -> u32
@@ -48,7 +48,7 @@ pub extern "C" fn escape_stream_is_normal(alloc: Global, bytes: &[u8], answer: &
     is_normal::is_normal(alloc, bytes, answer)
 }
 
-/// Begins a stream, of which at most `limit` bytes are kept of a string. A normaliser that was
+/// Begins a stream, with a limit of `limit` bytes that are kept of a string. A normaliser that was
 /// begun before is ended first. After `NO_MEMORY` it is not begun.
 #[unsafe(no_mangle)]
 pub extern "C" fn escape_stream_normal_begin(
@@ -63,11 +63,11 @@ pub extern "C" fn escape_stream_normal_begin(
     normal_chunks::normal_begin(alloc, normaliser, limit)
 }
 
-/// Takes the next chunk of the stream. What it adds to the normal form of the stream is then the
-/// text that [`escape_stream_normal_text`] gives.
+/// Takes the next chunk of the stream. The text that it adds to the normal form of the stream is
+/// then the text that [`escape_stream_normal_text`] gives.
 ///
-/// `NO_MEMORY` says that a request for memory was refused: the normaliser has ended, and what it
-/// kept was given back. `NOT_BEGUN` says that it had not begun, or had ended.
+/// `NO_MEMORY` says that a request for memory was refused: the normaliser has ended, and its memory
+/// was given back. `NOT_BEGUN` says that it had not begun, or had ended.
 #[unsafe(no_mangle)]
 pub extern "C" fn escape_stream_normal_feed(
     alloc: Global,
@@ -88,7 +88,7 @@ pub extern "C" fn escape_stream_normal_feed(
 }
 
 /// Ends the stream, and begins the next, within the same limit. The end adds nothing: the text that
-/// [`escape_stream_normal_text`] gives is then empty. What is unfinished is dropped. It takes no
+/// [`escape_stream_normal_text`] gives is then empty. An unfinished segment is dropped. It takes no
 /// memory. `NOT_BEGUN` says that the normaliser had not begun, or had ended.
 #[unsafe(no_mangle)]
 pub extern "C" fn escape_stream_normal_finish(alloc: Global, normaliser: &mut InChunks) -> u32
@@ -115,7 +115,7 @@ pub extern "C" fn escape_stream_normal_text(
     normal_chunks::normal_text(alloc, normaliser, from, out)
 }
 
-/// Ends a normaliser, and gives back what it kept. One that is not begun stays so.
+/// Ends a normaliser, and gives its memory back. One that is not begun stays so.
 #[unsafe(no_mangle)]
 pub extern "C" fn escape_stream_normal_end(alloc: Global, normaliser: &mut InChunks)
     ensures { IsEnded normaliser.new }

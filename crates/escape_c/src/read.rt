@@ -16,11 +16,11 @@ use esc_calls::{DONE, NO_MEMORY, kitty, osc, sixel, tcap};
 use flat_values::{FieldRow, SixelRow};
 use std::alloc::Global;
 
-/// Writes to `value` what the command is that the text of an operating system command means, which
-/// lies between `ESC ]` and its terminator: its kind, how many fields it has, and how many bytes
-/// their texts. Writes to `fields` a row for each field, as many as there is room for, and to `out`
-/// the texts of the fields one after another, as much of them as fits; the places in the rows are
-/// places in `out`.
+/// Writes to `value` the command that the text of an operating system command means, which lies
+/// between `ESC ]` and its terminator: its kind, the number of its fields, and the number of bytes
+/// of their texts. Writes to `fields` a row for each field, as many as there is room for, and to
+/// `out` the texts of the fields one after another, as much of them as fits; the places in the rows
+/// are places in `out`.
 ///
 /// `NO_MEMORY` is the only other status.
 #[unsafe(no_mangle)]
@@ -37,9 +37,9 @@ pub extern "C" fn escape_stream_read_osc(
     osc::read_osc(alloc, text, value, fields, out)
 }
 
-/// Writes to `value` what the command of kitty's graphics protocol is that the text of an
-/// application program command is, which lies between `ESC _` and its terminator: its kind, 0 where
-/// it is none, how many fields it has, and how many bytes their texts. Writes to `fields` a row for
+/// Writes to `value` the command of kitty's graphics protocol that the text of an application
+/// program command is, which lies between `ESC _` and its terminator: its kind, 0 if it is none,
+/// the number of its fields, and the number of bytes of their texts. Writes to `fields` a row for
 /// each field, as many as there is room for, and to `out` the texts of the fields one after
 /// another, as much of them as fits; the places in the rows are places in `out`.
 ///
@@ -58,8 +58,8 @@ pub extern "C" fn escape_stream_read_kitty(
     kitty::read_kitty(alloc, text, value, fields, out)
 }
 
-/// Writes to `value` what the sixel image is whose header has these parameters, and whose data this
-/// is, which lies between `q` and the terminator, and to `rows` a row for each item of its data, as
+/// Writes to `value` the sixel image whose header has these parameters, and whose data this is,
+/// which lies between `q` and the terminator, and to `rows` a row for each item of its data, as
 /// many as there is room for.
 ///
 /// `NO_MEMORY` is the only other status.

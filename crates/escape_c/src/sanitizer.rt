@@ -36,12 +36,12 @@ pub extern "C" fn escape_stream_sanitizer_begin(
     sanitizer_chunks::sanitizer_begin(alloc, sanitizer, options)
 }
 
-/// Takes the next chunk of the stream. What it adds to the text of the stream is then the text that
-/// [`escape_stream_sanitizer_text`] gives.
+/// Takes the next chunk of the stream. The text that it adds to the text of the stream is then the
+/// text that [`escape_stream_sanitizer_text`] gives.
 ///
-/// `NO_MEMORY` says that a request for memory was refused: the sanitizer has ended, and what it
-/// kept was given back. `NOT_BEGUN` says that it had not begun, or that its stream had ended; it
-/// was given back too.
+/// `NO_MEMORY` says that a request for memory was refused: the sanitizer has ended, and its memory
+/// was given back. `NOT_BEGUN` says that it had not begun, or that its stream had ended; it was
+/// given back too.
 #[unsafe(no_mangle)]
 pub extern "C" fn escape_stream_sanitizer_feed(
     alloc: Global,
@@ -58,8 +58,8 @@ pub extern "C" fn escape_stream_sanitizer_feed(
     sanitizer_chunks::sanitizer_feed(alloc, sanitizer, bytes)
 }
 
-/// Ends the stream. What that adds to its text is then the text that
-/// [`escape_stream_sanitizer_text`] gives, and the account is that of the whole stream.
+/// Ends the stream. The text that this adds is then the text that [`escape_stream_sanitizer_text`]
+/// gives, and the account is that of the whole stream.
 ///
 /// The statuses are those of [`escape_stream_sanitizer_feed`].
 #[unsafe(no_mangle)]
@@ -89,9 +89,9 @@ pub extern "C" fn escape_stream_sanitizer_text(
     sanitizer_chunks::sanitizer_text(alloc, sanitizer, from, out)
 }
 
-/// Writes to `account` what became of the bytes of the stream: of those of the lines, or of the
-/// segments, that have ended, and of all, once the stream has ended. Zeros, where the options ask
-/// for no account.
+/// Writes to `account` the account of the bytes of the stream: of those of the lines, or of the
+/// segments, that have ended, and of all, once the stream has ended. Zeros, if the options ask for
+/// no account.
 ///
 /// `NOT_BEGUN` is the only other status: the sanitizer had not begun, or was given back.
 #[unsafe(no_mangle)]
@@ -109,7 +109,7 @@ pub extern "C" fn escape_stream_sanitizer_account(
     sanitizer_chunks::sanitizer_account(alloc, sanitizer, account)
 }
 
-/// Ends a sanitizer, and gives back what it kept. One that is not begun stays so.
+/// Ends a sanitizer, and gives its memory back. One that is not begun stays so.
 #[unsafe(no_mangle)]
 pub extern "C" fn escape_stream_sanitizer_end(alloc: Global, sanitizer: &mut InChunks)
     ensures { IsEnded sanitizer.new }

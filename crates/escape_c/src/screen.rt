@@ -16,9 +16,9 @@ use esc_calls::screen_row::ScreenRow;
 use esc_calls::{DONE, NO_MEMORY, NOT_BEGUN, screen_chunks};
 use std::alloc::Global;
 
-/// Begins a blank screen of so many columns and rows, where 0 is as 1. It keeps the last `most`
-/// rows that are scrolled off. A screen that was begun before is ended first. After `NO_MEMORY` it
-/// is not begun.
+/// Begins a blank screen of so many columns and rows; 0 is as 1. It keeps the last `most` rows that
+/// are scrolled off. A screen that was begun before is ended first. After `NO_MEMORY` it is not
+/// begun.
 #[unsafe(no_mangle)]
 pub extern "C" fn escape_stream_screen_begin(
     alloc: Global,
@@ -36,8 +36,8 @@ pub extern "C" fn escape_stream_screen_begin(
 /// Takes the next chunk of the stream.
 ///
 /// `NO_MEMORY` says that a request for memory was refused: the screen was given back. `NOT_BEGUN`
-/// says that it had not begun, or was given back; what was in its place was given back too. So it
-/// is of the other calls.
+/// says that it had not begun, or was given back; anything else in its place was given back too.
+/// The same holds for the other calls.
 #[unsafe(no_mangle)]
 pub extern "C" fn escape_stream_screen_feed(
     alloc: Global,
@@ -54,7 +54,7 @@ pub extern "C" fn escape_stream_screen_feed(
     screen_chunks::screen_feed(alloc, screen, bytes)
 }
 
-/// Writes what is known of the screen, but for its cells.
+/// Writes the state of the screen, but for its cells.
 #[unsafe(no_mangle)]
 pub extern "C" fn escape_stream_screen_state_of(
     alloc: Global,
@@ -70,8 +70,8 @@ pub extern "C" fn escape_stream_screen_state_of(
     screen_chunks::screen_state(alloc, screen, row)
 }
 
-/// Writes the cells of a row, from 0 on, as many as there is room for, and how many there are: none
-/// where there is no such row.
+/// Writes the cells of a row, from 0 on, as many as there is room for, and their number: none if
+/// there is no such row.
 #[unsafe(no_mangle)]
 pub extern "C" fn escape_stream_screen_cells(
     alloc: Global,
@@ -140,7 +140,7 @@ pub extern "C" fn escape_stream_screen_title(
     screen_chunks::screen_title(alloc, screen, out, needed)
 }
 
-/// Writes what the last chunk asked for, as there is room, and how many requests these are.
+/// Writes the requests of the last chunk, as there is room, and their number.
 #[unsafe(no_mangle)]
 pub extern "C" fn escape_stream_screen_requests(
     alloc: Global,
@@ -157,8 +157,8 @@ pub extern "C" fn escape_stream_screen_requests(
     screen_chunks::screen_requests(alloc, screen, out, needed)
 }
 
-/// Writes the address of a link, as much of it as fits, and its length: 0 where there is no such
-/// link. Links are counted from 1.
+/// Writes the address of a link, as much of it as fits, and its length: 0 if there is no such link.
+/// Links are counted from 1.
 #[unsafe(no_mangle)]
 pub extern "C" fn escape_stream_screen_link(
     alloc: Global,
@@ -190,8 +190,8 @@ pub extern "C" fn escape_stream_screen_link_id(
     screen_chunks::screen_link_id(alloc, screen, number, out, needed)
 }
 
-/// Writes for each row, as many as fit, 1 where its cells are not those that they were at the last
-/// call that wrote that row's, and 0 elsewhere.
+/// Writes for each row, as many as fit, 1 if its cells are not those that they were at the last
+/// call that wrote that row's, and 0 otherwise.
 #[unsafe(no_mangle)]
 pub extern "C" fn escape_stream_screen_changed(
     alloc: Global,
@@ -206,7 +206,7 @@ pub extern "C" fn escape_stream_screen_changed(
     screen_chunks::screen_changed(alloc, screen, out)
 }
 
-/// Ends a screen, and gives back what it kept. One that is not begun stays so.
+/// Ends a screen, and gives its memory back. One that is not begun stays so.
 #[unsafe(no_mangle)]
 pub extern "C" fn escape_stream_screen_end(alloc: Global, screen: &mut InChunks)
     ensures { IsEnded screen.new }

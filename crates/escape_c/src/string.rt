@@ -7,8 +7,8 @@ ghost use Rattle.esc_calls.specs.StringRows.{SaysString};
 use esc_calls::string_name;
 use esc_calls::string_row::StringRow;
 
-/// Writes to `out` what the operating system command of this text is, which lies between `ESC ]`
-/// and its terminator, and returns whether it has a name. Where it has none, `out` is zeros.
+/// Writes to `out` the row of the operating system command of this text, which lies between `ESC ]`
+/// and its terminator, and returns whether it has a name. If it has none, `out` is zeros.
 #[unsafe(no_mangle)]
 pub extern "C" fn escape_stream_osc_function(text: &[u8], out: &mut StringRow) -> bool
     ensures { SaysString (place_of_command text.now) out.new result }
@@ -16,9 +16,8 @@ pub extern "C" fn escape_stream_osc_function(text: &[u8], out: &mut StringRow) -
     string_name::osc_function(text, out)
 }
 
-/// The same of a device control string with this private prefix and this intermediate, each 0 where
-/// there is none, this final byte, these parameters and these data, of which the beginning is
-/// enough.
+/// The same for a device control string with this private prefix and this intermediate, each 0 if
+/// there is none, this final byte, these parameters and these data, whose beginning is enough.
 #[unsafe(no_mangle)]
 pub extern "C" fn escape_stream_dcs_function(
     private_prefix: u8,

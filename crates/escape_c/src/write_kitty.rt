@@ -9,8 +9,8 @@ use std::alloc::Global;
 /// Writes the text of the command of kitty's graphics protocol of this kind, which has these
 /// fields, to `out`: `ESC _`, its keys and its payload and `ESC \`, as much of it as fits, and its
 /// length in bytes to `needed`. The fields are as
-/// [`escape_stream_read_kitty`](crate::escape_stream_read_kitty) writes them. Reading what is
-/// written gives this kind and these fields.
+/// [`escape_stream_read_kitty`](crate::escape_stream_read_kitty) writes them. Reading the text
+/// gives this kind and these fields.
 ///
 /// `NO_COMMAND` says that no command has this kind and these fields. `NOT_WRITABLE` says that the
 /// text of the one that has them would not read back as it, as that of pixels that are not in

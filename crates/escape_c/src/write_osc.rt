@@ -9,7 +9,7 @@ use std::alloc::Global;
 /// Writes the text of the operating system command of this kind, which has these fields, to `out`:
 /// `ESC ]`, its parts and `ESC \`, as much of it as fits, and its length in bytes to `needed`. The
 /// fields are as [`escape_stream_read_osc`](crate::escape_stream_read_osc) writes them: `text` has
-/// their texts one after another, and what has no meaning in a row is 0. Reading what is written
+/// their texts one after another, and a number without a meaning in a row is 0. Reading the text
 /// gives this kind and these fields.
 ///
 /// `NO_COMMAND` says that no command has this kind and these fields. `NOT_WRITABLE` says that the

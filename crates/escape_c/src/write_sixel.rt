@@ -11,7 +11,7 @@ use std::alloc::Global;
 /// parameters, `q`, data and `ESC \`, as much of it as fits, and its length in bytes to `needed`.
 /// The value and the rows are as [`escape_stream_read_sixel`](crate::escape_stream_read_sixel)
 /// writes them, but for the `width`, the `height` and the `item_count`, which follow from the rest
-/// and are not looked at. Reading what is written gives this value and these rows.
+/// and are not looked at. Reading the text gives this value and these rows.
 ///
 /// `NO_COMMAND` says that no image has this value and these rows. `NOT_WRITABLE` says that the text
 /// of the one that has them would not read back as it, as that of one with a channel of a colour

@@ -9,7 +9,7 @@ use std::alloc::Global;
 /// Writes the text of the termcap query for the names that these fields are to `out`: `ESC P + q`,
 /// the names in hexadecimal and `ESC \`, as much of it as fits, and its length in bytes to
 /// `needed`. The fields are as [`escape_stream_read_tcap`](crate::escape_stream_read_tcap) writes
-/// them. Reading what is written gives these fields.
+/// them. Reading the text gives these fields.
 ///
 /// `NO_COMMAND` says that no names have these fields, and `NOT_WRITABLE` that there is no name.
 /// `NO_MEMORY` is the only other status.
