@@ -1,4 +1,4 @@
--- What the policy of a quiet log admits.
+-- The values that the policy of a quiet log admits.
 use Rattle.std.specs.Prelude.{Bool, true, false, not}
 use Rattle.esc_sequences.specs.declared.esc.Esc.TheVariants as esc_variant
 use Rattle.esc_sequences.specs.declared.esc_code.EscCode.TheVariants as esc_code
@@ -32,8 +32,8 @@ is_loud (command.Unspecified ps) = false
 
 -- A value that is admitted: no loud command, no `ESC k`, by which screen and tmux set a title, and
 -- no short control and nothing of a mode, which may pass on a title. A string terminator is not:
--- that of a string that passes is written with the string, and that of one that does not goes with
--- it.
+-- the terminator of a string that passes is written with the string, and that of one that does not
+-- goes with it.
 abbrev pub keeps : {A : Type 0} → Value A → Bool
 keeps (print c) = true
 keeps (string t) = true

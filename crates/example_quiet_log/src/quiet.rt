@@ -9,7 +9,7 @@ use esc_osc::OperatingSystemCommand;
 use esc_sequences::{Esc, EscCode};
 use std::alloc::Allocator;
 
-/// Admits what sets no title and shows no notification.
+/// Admits actions that set no title and show no notification.
 #[derive(Clone, Copy)]
 pub struct Quiet;
 
