@@ -2,8 +2,8 @@
 //! number it is given, and a reader and a writer that are slow and fail at one call.
 //!
 //! A test runs its code once for each number from 1 on, until a run meets no refusal. So each place
-//! that asks for memory is refused in turn, and the test sees which events the caller gets and which
-//! state is left.
+//! that asks for memory is refused in turn, and the test sees which events the caller gets and
+//! which state is left.
 #![tactic(auto)]
 
 pub mod byte_reader;

@@ -1,4 +1,4 @@
--- What a call for room leaves of a list.
+-- The list after a call for room.
 use Rattle.std.specs.Prelude.{◌≡◌, Vec, vec_len}
 
 -- it is as it was

@@ -1,10 +1,10 @@
-//! The one place where it is granted that a request for memory was refused.
+//! The one place that grants that a request for memory was refused.
 ghost use Rattle.std.specs.Prelude.{◌≡◌, OnErr};
 ghost use Rattle.fallible_alloc.specs.Refusals.{Refused};
 
 use std::alloc::Allocator;
 
-// What a call of the library returned whose only error is that memory was refused. Nothing else may
+// The result of a call of the library whose only error is that memory was refused. Nothing else may
 // be passed to it.
 #[inline(always)]
 pub(crate) fn answered<T, E, A: Allocator>(answer: Result<T, E>) -> Result<T, E>

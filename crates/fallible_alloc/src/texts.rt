@@ -17,7 +17,7 @@ pub fn text<A: Allocator>(alloc: A, text: &str) -> Result<String<A>, AllocError>
     answered::<_, _, A>(String::from_str(alloc, text))
 }
 
-/// The text of these bytes, with U+FFFD where they are not UTF-8.
+/// The text of these bytes, with U+FFFD for those that are not UTF-8.
 #[inline(always)]
 pub fn lossy<A: Allocator>(alloc: A, bytes: &[u8]) -> Result<String<A>, AllocError>
     ensures ok { IfOk result (λ text. string_bytes text ≡ utf8_lossy bytes.now) }
@@ -47,7 +47,7 @@ pub fn push_char<A: Allocator>(text: &mut String<A>, c: char) -> Result<(), Allo
     answered::<_, _, A>(text.push(c))
 }
 
-/// Appends what Display writes of a value. Its Display may fail only where what it writes to fails,
+/// Appends the text that Display writes for a value. Its Display may fail only if its writer fails,
 /// as each Display of this library does; the standard library has no word for that, so it is
 /// trusted.
 #[inline(always)]

@@ -1,4 +1,4 @@
--- What is asked through a reference to an allocator is asked of the allocator.
+-- A request through a reference to an allocator is one to the allocator.
 use denote.Bor.{Bor}
 use Rattle.fallible_alloc.specs.Refusals.{Refused}
 
