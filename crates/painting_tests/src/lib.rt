@@ -1,4 +1,4 @@
-//! Tests of `esc_paint`: what a terminal shows that reads a painted screen.
+//! Tests of `esc_paint`: the screen of a terminal that reads a painted screen.
 #![tactic(auto)]
 
 #[cfg(test)]

@@ -12,7 +12,7 @@ const COLUMNS: u16 = 12;
 
 const ROWS: u16 = 4;
 
-// What another terminal was left with.
+// The state that another terminal was left with.
 const BEFORE: &[u8] = b"\x1b[2;3r\x1b[?6h\x1b[4h\x1b(0\x1b[41;1mold\x1b[?7l";
 
 fn fed(alloc: Global, chunks: &[&[u8]]) -> Result<Terminal, AllocError> {

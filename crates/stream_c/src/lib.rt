@@ -30,14 +30,14 @@ pub extern "C" fn escape_stream_begin(parser: &mut EscParser)
 }
 
 /// Takes bytes of the stream up to the next event, notes the event, and returns how many bytes were
-/// taken: all of them, where there is no event.
+/// taken: all of them, if there is no event.
 ///
 /// The buffer is the same at each call of a parser. Its lower half keeps the unfinished string,
 /// which nobody else may write, its upper half receives the texts that are handed out. A string
 /// longer than the lower half is not handed out.
 ///
-/// What it promises is the record `Next` of `heapless_parser`. It fails only where the parser or
-/// the buffer hold other bytes than its calls left there.
+/// Its promises are the record `Next` of `heapless_parser`. It fails only if the parser or the
+/// buffer hold other bytes than its calls left there.
 #[unsafe(no_mangle)]
 pub extern "C" fn escape_stream_next(
     parser: &mut EscParser,

@@ -40,8 +40,8 @@ fn append<A: Allocator + Copy>(list: &mut Vec<Action<A>, A>, c: char) -> bool {
     action.append_to(list).is_ok()
 }
 
-// Whether the letters give this list, or, where a request is refused, one of them comes back and
-// the others give the shorter one.
+// Whether the letters give this list, or, if a request is refused, one of them comes back and the
+// others give the shorter one.
 fn is_list(alloc: Global, heap: &Refusing<Global>, row: &(&str, &str, &str)) -> bool {
     let (letters, whole, shorter) = *row;
     let mut list = Vec::new(heap);

@@ -10,7 +10,7 @@ use failing_alloc::Refusing;
 use std::alloc::{AllocError, Allocator, Global};
 use std::fmt::Debug;
 
-/// What takes memory.
+/// A call that takes memory.
 #[derive(Clone, Copy)]
 pub enum Asked {
     /// A call of a new parser.
@@ -64,7 +64,7 @@ impl Asked {
 
     /// Asks with the first request refused, then with the second, and so on, until no request meets
     /// the refusal. A refusal that a call gets by, as that of a growth that is only a hint, leaves
-    /// its result as it is; any other makes it an error. Returns how many were errors.
+    /// its result as it is; any other makes it an error. Returns the number of errors.
     pub fn refuse_each(self, alloc: Global, stream: &Stream, report: &mut Report) -> usize {
         let heap = Refusing::new(alloc);
         let result = self.result(alloc, &heap, 0, stream);
@@ -81,8 +81,8 @@ impl Asked {
         errors
     }
 
-    // Asks with the request of this number refused, and notes where the result is neither the
-    // wanted one nor an error. Returns how many errors it is.
+    // Asks with the request of this number refused, and notes if the result is neither the wanted
+    // one nor an error. Returns the number of errors.
     fn refuse(
         self,
         alloc: Global,
@@ -100,7 +100,7 @@ impl Asked {
         usize::from(is_error)
     }
 
-    // The result, as a text, where the request of this number is refused.
+    // The result, as a text, if the request of this number is refused.
     fn result(
         self,
         alloc: Global,
@@ -122,7 +122,7 @@ impl Asked {
     }
 }
 
-// A text, where there was memory for it.
+// A text, if there was memory for it.
 fn text_of(text: &Result<String, AllocError>) -> &str {
     match text {
         Ok(text) => text.as_str(),
@@ -143,7 +143,7 @@ fn begins_with_a_string(actions: &str) -> bool {
     true
 }
 
-// The Debug text of what the call returns. A parser that was refused memory has failed.
+// The Debug text of the call's result. A parser that was refused memory has failed.
 fn parsed<A: Allocator + Copy>(
     alloc: Global,
     heap: A,
@@ -155,7 +155,7 @@ fn parsed<A: Allocator + Copy>(
     checked(alloc, text, &mut parser)
 }
 
-// The text of a call, or that of a parser that goes on where the call was refused memory.
+// The text of a call, or that of a parser that goes on if the call was refused memory.
 fn checked<A: Allocator + Copy>(
     alloc: Global,
     text: Result<String, AllocError>,
@@ -205,7 +205,7 @@ fn given_of<T: Debug + Drop>(
     }
 }
 
-// What `encode` writes of the stream's actions.
+// The text that `encode` writes for the stream's actions.
 fn text<A: Allocator + Copy>(
     alloc: Global,
     heap: &Refusing<A>,
@@ -218,7 +218,7 @@ fn text<A: Allocator + Copy>(
     encoded(alloc, heap, actions)
 }
 
-/// What `normalise` writes, or the Debug text of the error.
+/// The text that `normalise` writes, or the Debug text of the error.
 pub fn normalised<A: Allocator + Copy>(
     alloc: Global,
     heap: A,

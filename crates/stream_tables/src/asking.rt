@@ -8,7 +8,7 @@ use escape_stream::{
 use failing_alloc::Refusing;
 use std::alloc::{AllocError, Allocator, Global};
 
-// An action of which a parser emits none, or not each.
+// A kind of action that a parser never emits, or not with each value.
 #[derive(Clone, Copy)]
 enum Made {
     Character(char),
@@ -136,7 +136,7 @@ fn wrong_request<'a>(
     None
 }
 
-// The same of an action that was made; 0 where it could not be.
+// The same for an action that was made; 0 if it could not be.
 fn wrong_request_of<'a>(
     heap: &'a Refusing<Global>,
     made: &Result<Action<&'a Refusing<Global>>, AllocError>,
@@ -189,12 +189,12 @@ static PARTS: [(&[u8], usize, usize, bool); 19] = [
     (b"a\x1b  [", 0, 2, false),
 ];
 
-// Some of the items, and none where there are fewer.
+// Some of the items, and none if there are fewer.
 fn part<T>(items: &[T], from: usize, to: usize) -> Option<&[T]> {
     items.get(from..to)
 }
 
-// Whether some of the actions of a stream are a writable list; none where there are too few.
+// Whether some of the actions of a stream are a writable list; none if there are too few.
 fn answer(alloc: Global, stream: &[u8], from: usize, to: usize) -> Option<bool> {
     match Reading::Whole.read(alloc, stream) {
         Ok(actions) => answer_of(alloc, part(&actions, from, to)),
@@ -202,7 +202,7 @@ fn answer(alloc: Global, stream: &[u8], from: usize, to: usize) -> Option<bool> 
     }
 }
 
-// Whether these are a writable list; none where there are none.
+// Whether these are a writable list; none if there are none.
 fn answer_of(alloc: Global, actions: Option<&[Action]>) -> Option<bool> {
     are_writable(alloc, actions?).ok()
 }

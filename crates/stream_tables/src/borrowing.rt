@@ -31,7 +31,7 @@ fn is_shown(alloc: Global, bytes: &[u8], wanted: &str) -> bool {
     ending.is_ok() & is_written & (shown.as_str() == wanted)
 }
 
-// Appends what it is given to a list.
+// Appends the actions that it is given to a list.
 #[derive(Drop)]
 struct Appending<A: Allocator> {
     alloc: A,
@@ -57,8 +57,8 @@ impl<A: Allocator + Copy> BorrowingSink<Action<A>> for Appending<A> {
     }
 }
 
-// That of the actions of a stream, appended where they were borrowed; and whether that ended
-// rightly: with an error only where a request was refused.
+// That of the actions of a stream, appended from their borrowed place; and whether that ended
+// rightly: with an error only if a request was refused.
 fn appended(
     alloc: Global,
     heap: &Refusing<Global>,
@@ -73,8 +73,7 @@ fn appended(
     (shown(alloc, Ok::<_, ParseError>(sink.actions)), is_right)
 }
 
-// Whether the text of a list is this one, or, where it may end early, that of the first of its
-// items.
+// Whether the text of a list is this one, or, if it may end early, that of the first of its items.
 fn is_list(text: &str, whole: &str, ends_early: bool) -> bool {
     match text.strip_suffix("])") {
         Some(items) if ends_early => whole.starts_with(items),
@@ -82,8 +81,8 @@ fn is_list(text: &str, whole: &str, ends_early: bool) -> bool {
     }
 }
 
-// Whether the actions of a stream, appended where they were borrowed, are those of this text; or,
-// where a request was refused, the first of them.
+// Whether the actions of a stream, appended from their borrowed place, are those of this text; or,
+// if a request was refused, the first of them.
 fn are_appended(alloc: Global, heap: &Refusing<Global>, bytes: &[u8], meant: &str) -> bool {
     match &appended(alloc, heap, bytes) {
         (Ok(text), true) => is_list(text.as_str(), meant, heap.has_refused()),
@@ -102,7 +101,7 @@ fn are_always_appended(alloc: Global, bytes: &[u8], meant: &str) -> bool {
     is_right && !heap.has_refused()
 }
 
-/// Whether a stream has borrowed actions of these texts, which are its actions where they are
+/// Whether a stream has borrowed actions of these texts, which are its actions once they are
 /// appended.
 pub fn are_borrowed(alloc: Global, bytes: &[u8], wanted: &str) -> bool {
     match shown(alloc, Reading::Whole.read(alloc, bytes)) {

@@ -18,7 +18,7 @@ impl Call {
     /// All calls.
     pub const ALL: [Call; 3] = [Call::List, Call::First, Call::Prefix];
 
-    /// The Debug text of what the call returns.
+    /// The Debug text of the call's result.
     pub fn shown<A: Allocator + Copy>(
         self,
         alloc: Global,

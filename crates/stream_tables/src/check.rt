@@ -22,7 +22,7 @@ pub fn check_table(alloc: Global, table: &str, report: &mut Report) {
     }
 }
 
-// A row is a stream, or one that is filtered, the parts of a command, what holds by name, calls of
+// A row is a stream, or one that is filtered, the parts of a command, a named statement, calls of
 // one parser, streams of several lengths, or streams that are made from numbers.
 fn check_row(alloc: Global, row: &Row, report: &mut Report) {
     if row.has("as-text") {

@@ -1,4 +1,4 @@
-//! What events a stream has, byte by byte and whole, and which strings take no memory.
+//! The events of a stream, byte by byte and whole, and the strings that take no memory.
 use crate::recorder::Recorder;
 use escape_stream::{ParseError, Segments, VTParser, segment_events};
 use failing_alloc::Refusing;
@@ -19,8 +19,8 @@ fn is_read_by_bytes(alloc: Global, stream: &[u8], events: &str) -> bool {
     is_right & parser.is_ground() & recorder.has(events)
 }
 
-// Whether these are the events of the stream that comes whole, where the first request for memory
-// is refused, if it may take none.
+// Whether these are the events of the stream that comes whole. The first request for memory is
+// refused if it may take none.
 fn is_read_whole(alloc: Global, stream: &[u8], events: &str, takes_memory: bool) -> bool {
     let heap = Refusing::new(alloc);
     heap.refuse_at(u64::from(!takes_memory));
@@ -29,8 +29,8 @@ fn is_read_whole(alloc: Global, stream: &[u8], events: &str, takes_memory: bool)
     is_read & recorder.has(events) & !heap.has_refused()
 }
 
-// Whether these are the events of its segments, where the first request for memory is refused, then
-// where the second one is, and so on: all of them, or, where a refusal ends the reading, a prefix.
+// Whether these are the events of its segments, if the first request for memory is refused, then
+// the second one, and so on: all of them, or, if a refusal ends the reading, a prefix.
 fn is_read_by_segments(alloc: Global, stream: &[u8], events: &str) -> bool {
     let heap = Refusing::new(alloc);
     for at in 1..MOST_REQUESTS {
@@ -43,7 +43,7 @@ fn is_read_by_segments(alloc: Global, stream: &[u8], events: &str) -> bool {
     false
 }
 
-// Whether all of these events are read, or a prefix where memory is refused.
+// Whether all of these events are read, or a prefix if memory is refused.
 fn is_prefix_read(alloc: Global, heap: &Refusing<Global>, stream: &[u8], events: &str) -> bool {
     let mut recorder = Recorder::new(alloc);
     if is_read(heap, stream, &mut recorder) {
@@ -63,8 +63,8 @@ fn is_read(heap: &Refusing<Global>, stream: &[u8], recorder: &mut Recorder) -> b
     is_read
 }
 
-/// Whether these are the events of the stream, in whatever way it comes; it may take no memory
-/// where it comes whole, if `takes_memory` is false.
+/// Whether these are the events of the stream, in whatever way it comes. It may take no memory as a
+/// whole if `takes_memory` is false.
 pub fn has_events(alloc: Global, stream: &[u8], events: &str, takes_memory: bool) -> bool {
     is_read_by_bytes(alloc, stream, events)
         && is_read_by_segments(alloc, stream, events)

@@ -1,7 +1,7 @@
 //! Why a row could not be checked.
 use std::alloc::{AllocError, AllocFailed};
 
-/// What was wrong, in words.
+/// The fault, in words.
 #[derive(Clone, Copy)]
 pub struct Fault(pub &'static str);
 

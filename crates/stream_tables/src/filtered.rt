@@ -1,4 +1,4 @@
-//! What a filter writes of a stream.
+//! The text that a filter writes for a stream.
 use crate::questions::is_asked_once;
 use crate::report::Report;
 use crate::row::Row;
@@ -31,7 +31,7 @@ enum Way {
     Lines(Returns),
 }
 
-// The ways of which a row need not say what is written, and the word before what is.
+// The ways whose text a row need not have, and the word before the text.
 const WAYS: [(Way, &str); 6] = [
     (Way::Characters(Unicode::Join), "joined"),
     (Way::Characters(Unicode::Show), "shown"),
@@ -41,9 +41,9 @@ const WAYS: [(Way, &str); 6] = [
     (Way::Lines(Returns::Drop), "lines-dropped"),
 ];
 
-/// What each policy lets through of a stream, read whole and byte by byte, that it is flushed, and
-/// that a policy is asked once of each action; and what is written of it where a read, a write or a
-/// request for memory fails, at each of them in turn.
+/// The text that each policy lets through of a stream, read whole and byte by byte, that it is
+/// flushed, and that a policy is asked once about each action; and the text that is written if a
+/// read, a write or a request for memory fails, at each of them in turn.
 pub fn check_filtered(alloc: Global, row: &Row, report: &mut Report) {
     let bytes = row.bytes(alloc, "stream", report);
     let stream = bytes.as_slice();
@@ -60,8 +60,8 @@ pub fn check_filtered(alloc: Global, row: &Row, report: &mut Report) {
     check_faults(alloc, row.name, stream, wanted.as_str(), report);
 }
 
-// Notes where what is written in this way, of the stream whole or byte by byte, is not the text
-// after this word.
+// Notes if the text that is written in this way, of the stream whole or byte by byte, is not the
+// text after this word.
 fn check_way(alloc: Global, row: &Row, named: (Way, &str), stream: &[u8], report: &mut Report) {
     let (way, word) = named;
     let wanted = row.text(alloc, word, report);
@@ -71,7 +71,8 @@ fn check_way(alloc: Global, row: &Row, named: (Way, &str), stream: &[u8], report
     report.expect(row.name, word, wanted.as_str(), by_bytes);
 }
 
-// The word before what a policy lets through: that of the one before it, where it has no line.
+// The word before the text that a policy lets through: that of the one before it, if it has no
+// line.
 fn word_of(row: &Row, policy: Policy) -> &'static str {
     match policy {
         Policy::All if row.has("as-all") => "as-all",
@@ -81,7 +82,7 @@ fn word_of(row: &Row, policy: Policy) -> &'static str {
     }
 }
 
-// What is written where something fails, and what a policy is asked.
+// The text that is written if something fails, and the questions to a policy.
 fn check_faults(alloc: Global, name: &str, stream: &[u8], wanted: &str, report: &mut Report) {
     let is_read = are_read_faults(alloc, stream, wanted);
     report.note_unless(is_read, name, "a read that fails changes what is written");
@@ -112,7 +113,7 @@ fn byte_by_byte(stream: &[u8], fails_at: usize) -> ByteReader<'_> {
 }
 
 impl Way {
-    // What is written of a stream.
+    // The text that is written for a stream.
     fn written<R: Read + Drop>(self, alloc: Global, reader: R) -> Result<String, AllocError> {
         match self {
             Way::Policy(policy) => filtered(alloc, reader, policy),
@@ -132,7 +133,7 @@ impl Way {
     }
 }
 
-// What this filter writes.
+// The text that this filter writes.
 fn written_by<R: Read + Drop, F: StreamFilter<Global> + Drop>(
     alloc: Global,
     reader: R,
@@ -158,7 +159,7 @@ fn run<A: Allocator + Copy, R: Read + Drop, W: Write + Drop>(
     (ending, writer.into_inner())
 }
 
-// What passes of a stream.
+// The actions of a stream that pass.
 fn filtered<R: Read + Drop>(
     alloc: Global,
     reader: R,
@@ -168,7 +169,7 @@ fn filtered<R: Read + Drop>(
     written(alloc, ending, text)
 }
 
-// Whether a read that fails is an error, and what was written is a prefix.
+// Whether a read that fails is an error, and the output is a prefix.
 fn are_read_faults(alloc: Global, stream: &[u8], wanted: &str) -> bool {
     let mut is_right = true;
     for at in 1..=stream.len().saturating_add(1) {
@@ -184,7 +185,8 @@ fn is_read_fault(alloc: Global, stream: &[u8], at: usize, wanted: &str) -> bool 
     (ending == Err(FilterError::Read)) & wanted.as_bytes().starts_with(&text)
 }
 
-// Whether a writer that fails, of one byte a call, is an error, and holds what it took before.
+// Whether a writer that fails, of one byte a call, is an error, and holds the bytes that it took
+// before.
 fn are_write_faults(alloc: Global, stream: &[u8], wanted: &str) -> bool {
     let mut is_right = true;
     for at in 0..wanted.len().min(64) {
@@ -200,8 +202,8 @@ fn is_write_fault(alloc: Global, stream: &[u8], wanted: &[u8]) -> bool {
     (ending == Err(FilterError::Write)) & held.holds(wanted)
 }
 
-// Whether what a read adds is flushed before the next read, and what the end adds. A longer text is
-// not tried.
+// Whether the text that a read adds is flushed before the next read, and the text that the end
+// adds. A longer text is not tried.
 fn is_flushed(alloc: Global, stream: &[u8], wanted: &str) -> bool {
     let writer = FixedWriter::new(64, 64, 0);
     let (ending, held) = run(alloc, byte_by_byte(stream, 0), writer, Policy::All);
@@ -223,7 +225,7 @@ fn are_requests_right(alloc: Global, stream: &[u8], wanted: &str) -> bool {
     false
 }
 
-// Whether a filter over this heap writes the text, or where it is refused memory a beginning of it.
+// Whether a filter over this heap writes the text, or if it is refused memory a beginning of it.
 fn is_unchanged<A: Allocator + Copy>(alloc: Global, heap: A, stream: &[u8], wanted: &str) -> bool {
     let (ending, text) = run(heap, stream, Vec::new(alloc), Policy::All);
     if ending.is_ok() {

@@ -3,7 +3,7 @@ use escape_stream::{ParseError, Parser};
 use std::alloc::Global;
 
 /// Whether `parse_first` takes each time the bytes up to the next that gives actions, and returns
-/// the first of them: what `parse_as_vec` returns of the same bytes.
+/// the first of them: the first that `parse_as_vec` returns for the same bytes.
 pub fn finds_firsts(alloc: Global, stream: &[u8]) -> bool {
     let mut parser = Parser::new(alloc);
     let mut other = Parser::new(alloc);
@@ -45,7 +45,7 @@ fn is_first<T: PartialEq + Drop>(
     }
 }
 
-// Whether the items begin with the one that was found, and are none where none was.
+// Whether the items begin with the one that was found, and are none if none was.
 fn begins<T: PartialEq>(items: &[T], first: &Result<Option<(T, usize)>, ParseError>) -> bool {
     match first {
         Ok(Some((first, _))) => match items.first() {

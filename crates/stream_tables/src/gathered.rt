@@ -1,4 +1,4 @@
-//! What calls return, one after another.
+//! The results of calls, one after another.
 use escape_stream::ParseError;
 use std::alloc::Allocator;
 
@@ -33,7 +33,7 @@ impl<T: Drop, A: Allocator> Gathered<T, A> {
         }
     }
 
-    /// Appends the items of a prefix. Returns its length, and 0 where there is none.
+    /// Appends the items of a prefix. Returns its length, and 0 if there is none.
     pub fn add_prefix(&mut self, found: Result<Option<(Vec<T, A>, usize)>, ParseError>) -> usize {
         match found {
             Ok(Some((added, len))) => {

@@ -1,4 +1,5 @@
-//! Calls that take no stream, and what else is no list of actions: each row names what holds.
+//! Calls that take no stream, and others whose result is no list of actions: each row names a
+//! statement that holds.
 use crate::appending::are_appended;
 use crate::asking::{are_lists_told, are_told};
 use crate::borrowing::are_borrowed;
@@ -18,7 +19,7 @@ use crate::watching::{
 use escape_stream::VTParser;
 use std::alloc::Global;
 
-/// Notes a row where it does not hold.
+/// Notes a row if it does not hold.
 pub fn check_holding(alloc: Global, row: &Row, report: &mut Report) {
     let holds = row.text(alloc, "holds", report);
     let input = row.bytes(alloc, "input", report);
@@ -27,7 +28,7 @@ pub fn check_holding(alloc: Global, row: &Row, report: &mut Report) {
     report.note_unless(is_right, row.name, "it does not hold");
 }
 
-// Whether what has this name holds, of an input and what it gives, where there is one.
+// Whether the statement of this name holds, for an input and its result, if there is one.
 fn does_hold(alloc: Global, name: &str, input: &[u8], gives: &str) -> bool {
     match name {
         "events" => has_events(alloc, input, gives, true),
@@ -38,7 +39,7 @@ fn does_hold(alloc: Global, name: &str, input: &[u8], gives: &str) -> bool {
     }
 }
 
-// The same of what takes no input.
+// The same for a statement that takes no input.
 fn does_hold_alone(alloc: Global, name: &str) -> bool {
     match name {
         "failed" => is_failed(alloc),

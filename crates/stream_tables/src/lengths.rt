@@ -44,7 +44,7 @@ fn add_times(stream: &mut String, input_chunk: &str, times: usize) -> Result<(),
     Ok(())
 }
 
-// The numbers that a word names: `a..b`, of which the last is left out, or one.
+// The numbers that a word names: `a..b`, the last of which is left out, or one.
 fn range(row: &str, word: &str, report: &mut Report) -> (usize, usize) {
     match word.split_once("..") {
         Some((from, to)) => (report.number_of(row, from), report.number_of(row, to)),
@@ -77,7 +77,7 @@ fn check_text(alloc: Global, name: &str, stream: &str, report: &mut Report) {
     }
 }
 
-// Whether this call of a new parser returns an action where there are bytes.
+// Whether this call of a new parser returns an action if there are bytes.
 fn begins_rightly(alloc: Global, call: Call, bytes: &[u8]) -> bool {
     let mut parser = Parser::new(alloc);
     match call.shown(alloc, &mut parser, bytes) {

@@ -15,7 +15,7 @@ piece ends times limit keeps as-text as-color as-screen as-all joined shown drop
 lines-shown lines-dropped seed count holds input";
 
 impl<'a> Line<'a> {
-    /// Reads a line. None where it is empty or a comment.
+    /// Reads a line. None if it is empty or a comment.
     pub fn read(line: &'a str) -> Result<Option<Line<'a>>, Fault> {
         if line.is_empty() || line.starts_with('#') {
             return Ok(None);
@@ -33,7 +33,7 @@ impl<'a> Line<'a> {
     }
 }
 
-// What is on either side of the first mark; without one the text and the other.
+// The texts on either side of the first mark; without one the text and the other.
 fn cut<'a>(text: &'a str, mark: char, other: &'a str) -> (&'a str, &'a str) {
     match text.split_once(mark) {
         Some(parts) => parts,

@@ -1,12 +1,12 @@
-//! Links of many parameters. This ends in time only where the work for a parameter grows with
-//! the logarithm of their number.
+//! Links of many parameters. This ends in time only if the work for a parameter grows with the
+//! logarithm of their number.
 use escape_stream::{encode, parse_chunks};
 use std::alloc::{AllocError, Global};
 
 const KEYS: usize = 100_000;
 
 // A link of as many parameters as `KEYS`. Their keys are numbers of six digits, which rise, or fall
-// where `falls` is true.
+// if `falls` is true.
 fn link_of_keys(alloc: Global, falls: bool) -> Result<String, AllocError> {
     let mut stream = String::new(alloc);
     stream.push_str("\x1b]8;")?;
@@ -19,7 +19,7 @@ fn link_of_keys(alloc: Global, falls: bool) -> Result<String, AllocError> {
     Ok(stream)
 }
 
-// Whether what is written of the stream is this text.
+// Whether the text that is written for the stream is this text.
 fn is_written(alloc: Global, stream: &str, text: &str) -> bool {
     match parse_chunks(alloc, &[stream.as_bytes()]) {
         Ok(actions) => is_text(encode(alloc, &actions), text),

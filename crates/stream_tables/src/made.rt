@@ -26,7 +26,7 @@ pub fn check_made(alloc: Global, row: &Row, report: &mut Report) {
     }
 }
 
-// Notes where the readings of the stream of this number differ.
+// Notes if the readings of the stream of this number differ.
 fn check_seed(alloc: Global, name: &str, seed: u64, report: &mut Report) {
     let mut random = Random::new(seed);
     let mut stream = Vec::new(alloc);
@@ -39,7 +39,7 @@ fn check_seed(alloc: Global, name: &str, seed: u64, report: &mut Report) {
     }
 }
 
-// Which reading of a parser differs from that of the segments, if one does.
+// The reading of a parser that differs from that of the segments, if one does.
 fn difference(alloc: Global, stream: &[u8], random: &mut Random) -> Option<&'static str> {
     if !is_alike(alloc, stream, Reading::Whole) {
         return Some("the stream whole differs");
@@ -54,7 +54,7 @@ fn difference(alloc: Global, stream: &[u8], random: &mut Random) -> Option<&'sta
     None
 }
 
-// What a parser hands out of the stream in chunks.
+// The actions that a parser hands out for the stream in chunks.
 fn in_input_chunks(
     alloc: Global,
     stream: &[u8],

@@ -1,8 +1,8 @@
-//! Checks tables of streams: what each stream means, and how that is written.
+//! Checks tables of streams: the meaning of each stream, and the text of that.
 //!
 //! `stream_tables TABLE..` reads each table, a text file of rows, and prints a line with its name
-//! and the count of its rows, and below it a line for each way in which a row differs from what the
-//! library does. The status is 1 where one differs. `docs/DEVELOPING.md` has the form of a row.
+//! and the count of its rows, and below it a line for each way in which a row differs from the
+//! library. The status is 1 if one differs. `docs/DEVELOPING.md` has the form of a row.
 //! `stream_tables -` shows the actions of standard input, a line of a row for each.
 #![tactic(auto)]
 

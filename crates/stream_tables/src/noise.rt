@@ -1,11 +1,11 @@
-//! What streams are made of.
+//! The parts of which streams are made.
 use crate::fault::Fault;
 use crate::random::Random;
 use crate::unescaped::unescaped;
 use std::alloc::Global;
 
-// What streams are made of, beside bytes by themselves, with `|` between: openers, ends, and what
-// strings and sequences hold. One text, since a table of so many is dear to prove.
+// The parts of which streams are made, beside bytes by themselves, with `|` between: openers, ends,
+// and the content of strings and sequences. One text, since a table of so many is dear to prove.
 const PIECES: &str = "\
 \\x1b|\\x1b[|\\x1b]|\\x1bP|\\x1b_|\\x1bX|\\x1b^|\\x9b|\\x9d|\\x90|\\x9f|\\x98|\\x9e|\
 \\xc2\\x9b|\\xc2\\x9d|\\xc2\\x90|\\xc2\\x9f|\\xc2\\x98|\\x9c|\\xc2\\x9c|\\x1b\\\\|\\x07|\

@@ -23,7 +23,7 @@ pub fn writer(room: usize, step: usize, fails_at: usize) -> Watched<FixedWriter>
 }
 
 // Whether normalising ends so: with this fault, after so many bytes of the text were written.
-// Without a fault all is read; where nothing is to be written, the writer is not called.
+// Without a fault all is read; if nothing is to be written, the writer is not called.
 fn ends(
     alloc: Global,
     mut from: Watched<ByteReader<'_>>,
@@ -43,7 +43,7 @@ fn ends(
     is_right & ((held.calls > 0) == (is_write_fault | (written > 0)))
 }
 
-/// Whether it ends rightly where a read or a write fails.
+/// Whether it ends rightly if a read or a write fails.
 pub fn are_faults_told(alloc: Global) -> bool {
     let read = Some(NormaliseError::Read);
     let write = Some(NormaliseError::Write);

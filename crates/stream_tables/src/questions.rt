@@ -48,7 +48,7 @@ impl Expecting<'_> {
     }
 }
 
-// Whether it saves or restores the cursor: what a policy may be asked of at the end.
+// Whether it saves or restores the cursor, so that a policy may be asked about it at the end.
 fn is_of_the_cursor(action: &Action) -> bool {
     matches!(
         action,
@@ -89,7 +89,7 @@ fn are_asked_once(alloc: Global, stream: &[u8], limit: usize, actions: &[Action]
     !all.differs & (all.done == actions.len()) & (all == none)
 }
 
-// What a policy that admits all or nothing is asked of.
+// The actions about which a policy that admits all or nothing is asked.
 fn asked_of(
     alloc: Global,
     stream: &[u8],

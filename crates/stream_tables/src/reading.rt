@@ -14,7 +14,7 @@ pub enum Reading {
     Halves,
     /// `parse_as_vec` of each byte.
     Bytes,
-    /// `parse_first_as_vec` of what is left, until it finds nothing.
+    /// `parse_first_as_vec` of the rest, until it finds nothing.
     Prefixes,
     /// `read_segment` of each segment.
     Segments,
@@ -81,7 +81,7 @@ fn by_segments<A: Allocator + Copy>(
     gathered.ended()
 }
 
-// What a parser would return.
+// The result that a parser would return.
 fn parsed<T: Drop>(read: Result<T, AllocError>) -> Result<T, ParseError> {
     match read {
         Ok(read) => Ok(read),
@@ -100,8 +100,8 @@ pub fn by_calls(alloc: Global, stream: &[u8]) -> Result<Vec<Action>, ParseError>
     gathered.ended()
 }
 
-// What may come after bytes: nothing, or a byte that ends what is unfinished, opens a string or
-// belongs to neither.
+// The bytes that may come after others: nothing, or a byte that ends an unfinished segment, opens a
+// string or belongs to neither.
 const NEXT: [&[u8]; 8] = [
     b"", b"\x18", b"\x1a", b"\x1b", b"\x9c", b"\x9b", b"\x90", b"\xff",
 ];

@@ -1,4 +1,4 @@
-//! What differs.
+//! The differences.
 use crate::fault::Fault;
 use crate::line::number;
 use std::alloc::{AllocError, Global};
@@ -6,8 +6,8 @@ use std::alloc::{AllocError, Global};
 // How many characters of a text are shown.
 const SHOWN: usize = 2000;
 
-/// How many rows were checked, how many differences were seen, and a line for each, but where there
-/// is no memory for it.
+/// The number of rows that were checked, of differences that were seen, and a line for each, unless
+/// there is no memory for it.
 #[derive(Drop)]
 pub struct Report {
     pub rows: usize,
@@ -31,14 +31,14 @@ impl Report {
         let _ = writeln!(self.lines, "  {row}: {fault}");
     }
 
-    /// Notes a fault of a row, where what it is about is not right.
+    /// Notes a fault of a row, if its test is not right.
     pub fn note_unless(&mut self, is_right: bool, row: &str, fault: &str) {
         if !is_right {
             self.note(row, fault);
         }
     }
 
-    /// Notes why a row cannot be read, where it cannot.
+    /// Notes why a row cannot be read, if it cannot.
     pub fn note_fault(&mut self, row: &str, reading: Result<(), Fault>) {
         match reading {
             Ok(()) => {}
@@ -57,8 +57,8 @@ impl Report {
         }
     }
 
-    /// Notes a difference, where what the library gives is not the wanted text. Of a long text the
-    /// beginning is shown. It takes what is given, since a caller that has it to drop is dearer to
+    /// Notes a difference, if the result of the library is not the wanted text. Of a long text the
+    /// beginning is shown. It takes the result, since a caller that has it to drop is dearer to
     /// prove.
     pub fn expect(&mut self, row: &str, what: &str, wanted: &str, got: Result<String, AllocError>) {
         match got {
@@ -67,7 +67,7 @@ impl Report {
         }
     }
 
-    // Notes a difference between two texts, where there is one.
+    // Notes a difference between two texts, if there is one.
     fn compare(&mut self, row: &str, what: &str, wanted: &str, got: &str) {
         if wanted != got {
             self.note(row, what);

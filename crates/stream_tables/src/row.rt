@@ -13,8 +13,8 @@ pub struct Row<'a> {
 }
 
 impl<'a> Row<'a> {
-    /// Reads the lines of a block, of which there are none where it has comments alone. A fault in
-    /// one is noted.
+    /// Reads the lines of a block; there are none if it has comments alone. A fault in one is
+    /// noted.
     pub fn read(alloc: Global, block: &'a str, report: &mut Report) -> Row<'a> {
         let mut lines = Vec::new(alloc);
         report.note_fault(block, add_lines(block, &mut lines));
@@ -60,13 +60,13 @@ impl<'a> Row<'a> {
         }
     }
 
-    /// What is written of its actions: its stream, where it has no text.
+    /// The text of its actions: its stream, if it has no text.
     pub fn written(&self, alloc: Global, report: &mut Report) -> String {
         let word = if self.has("text") { "text" } else { "stream" };
         self.text(alloc, word, report)
     }
 
-    /// The number after a word, and 0 where it has none.
+    /// The number after a word, and 0 if it has none.
     pub fn number(&self, word: &str, report: &mut Report) -> usize {
         for line in &self.lines {
             if line.word == word {
@@ -97,7 +97,7 @@ fn add_lines<'a>(block: &'a str, lines: &mut Vec<Line<'a>>) -> Result<(), Fault>
     Ok(())
 }
 
-// The name of the row of these lines, where it is one.
+// The name of the row of these lines, if it is one.
 fn name_of<'a>(lines: &[Line<'a>]) -> Option<&'a str> {
     match lines {
         [line, ..] if line.word == "row" => Some(line.text),
@@ -123,7 +123,7 @@ fn add_actions(alloc: Global, lines: &[Line], list: &mut String) -> Result<(), F
     Ok(list.push_str("])")?)
 }
 
-// Adds what a line says of the actions to their list.
+// Adds the text of a line about the actions to their list.
 fn add_action(alloc: Global, line: &Line, list: &mut String) -> Result<(), Fault> {
     match line.word {
         "action" => {
@@ -140,7 +140,7 @@ fn add_action(alloc: Global, line: &Line, list: &mut String) -> Result<(), Fault
     Ok(())
 }
 
-// Adds a comma where an action is before it.
+// Adds a comma if an action is before it.
 fn add_comma(list: &mut String) -> Result<(), AllocError> {
     if list.len() > BEGINS.len() {
         return list.push_str(", ");

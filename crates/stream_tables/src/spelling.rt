@@ -6,8 +6,8 @@ use escape_stream::{Action, ParseError, Sink, TextSink};
 use failing_alloc::Refusing;
 use std::alloc::{AllocError, Allocator, Global};
 
-/// What the sink spells of the stream's actions, or the Debug text of the error. After a refused
-/// action it has the text that it had, and a prefix of what the action adds.
+/// The text that the sink spells for the stream's actions, or the Debug text of the error. After a
+/// refused action it has the text that it had, and a prefix of the text that the action adds.
 pub fn spelled<B: Allocator + Copy>(
     alloc: Global,
     heap: &Refusing<B>,

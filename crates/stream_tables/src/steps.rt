@@ -8,7 +8,7 @@ use crate::unescaped::unescaped;
 use escape_stream::Parser;
 use std::alloc::Global;
 
-/// Makes the calls of a row, and compares what each returns with the line after it.
+/// Makes the calls of a row, and compares the result of each with the line after it.
 pub fn check_steps(alloc: Global, row: &Row, report: &mut Report) {
     let mut parser = Parser::new(alloc);
     for step in row.lines.get(1..).unwrap_or(&[]).chunks(2) {
@@ -21,8 +21,8 @@ pub fn check_steps(alloc: Global, row: &Row, report: &mut Report) {
     }
 }
 
-// Makes a call, and compares what it returns with this text. Its bytes are read as a stream of
-// their own, too, by a parser and by their segments.
+// Makes a call, and compares its result with this text. Its bytes are read as a stream of their
+// own, too, by a parser and by their segments.
 fn check_step(
     alloc: Global,
     name: &str,

@@ -1,4 +1,4 @@
-//! A stream, what it means, and the text of that.
+//! A stream, its meaning, and the text of that.
 use crate::asked::{Asked, normalised};
 use crate::firsts::finds_firsts;
 use crate::limited::Limited;
@@ -19,8 +19,8 @@ pub struct Stream<'a> {
     pub is_finished: bool,
 }
 
-/// The bytes of a stream, its actions, and what is written of them, as it came where the row has no
-/// text; under a limit, where the row has one.
+/// The bytes of a stream, its actions, and their text, as the stream came if the row has no text;
+/// under a limit, if the row has one.
 pub fn check_stream(alloc: Global, row: &Row, report: &mut Report) {
     let bytes = row.bytes(alloc, "stream", report);
     let actions = row.actions(alloc, report);
@@ -47,7 +47,7 @@ pub fn check_stream(alloc: Global, row: &Row, report: &mut Report) {
 // Longer streams are not cut at each place, and are refused no memory.
 const CUT_UP_TO: usize = 2000;
 
-// Of a longer stream no proper prefix is read by its segments.
+// For a longer stream no proper prefix is read by its segments.
 const PREFIXES_UP_TO: usize = 200;
 
 // Longer streams are read whole, and by no other call.
@@ -108,7 +108,7 @@ impl Stream<'_> {
         }
     }
 
-    // The text of the actions, and what is read of it again.
+    // The text of the actions, and the actions that are read from it again.
     fn check_text(&self, alloc: Global, report: &mut Report) {
         let actions = Reading::Whole.read(alloc, self.bytes);
         self.is_written("written", encoded(alloc, alloc, actions), report);
@@ -138,7 +138,7 @@ impl Stream<'_> {
         report.expect(self.name, how, self.actions, got);
     }
 
-    // Whether what is written of the stream in this way is its text.
+    // Whether the text that is written for the stream in this way is its text.
     fn is_written(&self, how: &str, got: Result<String, AllocError>, report: &mut Report) {
         report.expect(self.name, how, self.text, got);
     }

@@ -1,4 +1,4 @@
-//! Texts of what calls return.
+//! Texts of the results of calls.
 use escape_stream::{Action, ParseError, encode};
 use std::alloc::{AllocError, Allocator, Global};
 use std::fmt::{Debug, Display};
@@ -16,7 +16,7 @@ pub fn is_shown<T: Debug + Drop>(alloc: Global, value: T, wanted: &str) -> bool 
     }
 }
 
-/// What `encode` writes of these actions, or the Debug text of the error.
+/// The text that `encode` writes for these actions, or the Debug text of the error.
 pub fn encoded<A: Allocator + Copy>(
     alloc: Global,
     heap: A,
@@ -39,7 +39,7 @@ fn text_of<A: Allocator, E: Debug + Drop>(
     }
 }
 
-/// What a call wrote that ended so, in this form: after an error nothing is to be written.
+/// The text that a call wrote that ended so, in this form: after an error nothing is to be written.
 pub fn written<E: Debug + Drop>(
     alloc: Global,
     ending: Result<(), E>,
@@ -52,7 +52,7 @@ pub fn written<E: Debug + Drop>(
     }
 }
 
-// What a terminator is displayed as.
+// The text of a terminator.
 const TERMINATOR: &[u8] = b"\x1b\\";
 
 /// Whether the Display texts of these items are this text, but for string terminators.
@@ -81,7 +81,7 @@ fn are_displayed<T: Display>(alloc: Global, items: &[T], text: &str) -> bool {
     }
 }
 
-// What is after the text of an item, before which a terminator may come. A terminator may be left
+// The rest after the text of an item, before which a terminator may come. A terminator may be left
 // out.
 fn skip<'a>(text: Option<&'a [u8]>, shown: &[u8]) -> Option<&'a [u8]> {
     let text = text?;

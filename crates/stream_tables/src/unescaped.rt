@@ -38,7 +38,7 @@ enum Escape {
 }
 
 impl Escape {
-    // The byte that ends with this one, if one does, and what has been read then.
+    // The byte that ends with this one, if one does, and the state of the reader then.
     fn take(self, byte: u8) -> Result<(Option<u8>, Escape), Fault> {
         match (self, byte) {
             (Escape::None, b'\\') => Ok((None, Escape::Begun)),

@@ -52,7 +52,7 @@ pub fn is_reader_passed_on() -> bool {
     is_first & is_read_on() & is_remembered(&mut from, ErrorKind::Other)
 }
 
-// Reads of a stream, of which the first is interrupted.
+// Reads of a stream, the first of which is interrupted.
 #[derive(Drop)]
 struct Interrupted<'a> {
     rest: &'a [u8],
@@ -90,7 +90,7 @@ pub fn is_interruption_told(alloc: Global) -> bool {
     is_remembered(&mut interrupted_reader(), ErrorKind::Interrupted) & is_read_fault(alloc)
 }
 
-// Whether a writer is given what is written, and flushed.
+// Whether a writer is given the bytes that are written, and flushed.
 fn is_passed_on() -> bool {
     let mut to = writer(64, 64, 0);
     let mut is_right = to.write_all(b"ab").is_ok();
@@ -100,7 +100,7 @@ fn is_passed_on() -> bool {
     is_right & (held.flushes == 1) & held.holds(b"ab")
 }
 
-// Whether a full writer is remembered, once it has taken nothing of what it was given.
+// Whether a full writer is remembered, once it has taken nothing of the bytes that it was given.
 fn is_full_remembered() -> bool {
     let mut to = writer(1, 64, 0);
     let mut is_right = is_taken(&mut to, b"", 0);
@@ -175,7 +175,8 @@ pub fn are_errors_passed_on() -> bool {
 
 const WORD: &[u8] = b"abcd";
 
-// Whether a writer that failed at this call holds what it took before, and was not called again.
+// Whether a writer that failed at this call holds the bytes that it took before, and was not called
+// again.
 fn is_prefix_held(to: Watched<FixedWriter>, at: usize) -> bool {
     let has_failed = to.failed();
     let held = to.into_inner();
@@ -183,7 +184,7 @@ fn is_prefix_held(to: Watched<FixedWriter>, at: usize) -> bool {
     has_failed & is_prefix & (held.calls == at)
 }
 
-/// Whether a writer that fails holds a prefix of what it was to be given.
+/// Whether a writer that fails holds a prefix of the bytes that it was to be given.
 pub fn is_prefix_kept() -> bool {
     let mut is_right = true;
     for at in 1..5usize {
