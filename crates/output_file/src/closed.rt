@@ -3,11 +3,11 @@
 use std::fs::{File, OpenOptions};
 use std::os::fd::{AsRawFd, IntoRawFd};
 
-// What is opened in their place.
+// The device that is opened in their place.
 const NULL: &str = "/dev/null";
 
-// What is opened where there is no such device. A folder is not written, and its bytes are not
-// read.
+// The folder that is opened if there is no such device. A folder is not written, and its bytes are
+// not read.
 const ROOT: &str = "/";
 
 // How many standard streams there are, whose descriptors are the first numbers.
@@ -37,8 +37,8 @@ pub fn open_closed(rt: &HostRuntime) {
     }
 }
 
-// Leaves the file open where its descriptor, which is the lowest that was free, is below this
-// number, and closes it otherwise. It returns whether it is below.
+// Leaves the file open if its descriptor, which is the lowest that was free, is below this number,
+// and closes it otherwise. It returns whether it is below.
 fn keep_below(file: File, number: i32) -> bool {
     if file.as_raw_fd() >= number {
         return false;

@@ -9,14 +9,14 @@ use std::fs::{Files, Metadata, metadata};
 use std::io;
 use std::os::unix::fs::MetadataExt;
 
-/// What a program says of a file that it does not read since standard output is that file.
+/// The message about a file that a program does not read since standard output is that file.
 pub const IS_OUTPUT: &str = "the output is this file";
 
-/// Whether standard output is the regular file of which this is known. What were read of it would
-/// be what was written, with no end.
+/// Whether standard output is the regular file of which this is known. The program would read its
+/// own output, with no end.
 ///
-/// It is not, where nothing is known of one of them; what is known of standard output is what the
-/// system says of `/dev/stdout`.
+/// It is not, if nothing is known of one of them; standard output is known by the system's answer
+/// about `/dev/stdout`.
 pub fn is_output<F: Files>(files: &F, input: io::Result<Metadata>) -> bool {
     let Ok(input) = input else {
         return false;

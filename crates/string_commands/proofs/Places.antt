@@ -9,7 +9,7 @@ use Rattle.string_commands.specs.declared.string_kind.StringKind.{StringKind}
 use Rattle.string_commands.specs.Rows.{Finds, IsRow, first_fit, first_named, fits, has_key, is_key, place_below}
 use Rattle.string_commands.specs.declared.table.TheConstants.{COUNT}
 
--- what a mapped list has left
+-- the rest of a mapped list
 cut : {X Y : Type 0} (f : X → Y) (xs : List X) (at : ℕ) (d : X) → at < length xs
     → drop at (map f xs) ≡ f (get_or xs at d) ∷ drop (at + 1) (map f xs)
 cut f xs at d lt =

@@ -9,7 +9,7 @@ use Rattle.string_commands.specs.declared.table.TheConstants.{COUNT}
 numbers : List ℕ
 numbers = range_with_len 0 COUNT
 
--- what is so of the places of all rows is so of each
+-- a fact about the places of all rows is one about each
 each : {X : Type 0} (xs : List X) (f : X → Option ℕ) (d : X) → length xs ≡ COUNT
     → map f xs ≡ map (λ i. Some i) (range_with_len 0 COUNT) → (i : ℕ) → i < COUNT
     → f (get_or xs i d) ≡ Some i

@@ -100,7 +100,7 @@ place_of kind key params text = first_fit kind key params text ENTRIES starts 0
 unfoldable pub place_named : List ℕ → Option ℕ
 place_named name = first_named name names 0
 
--- the place, where the table has one
+-- the place, if the table has one
 abbrev pub place_below : ℕ → Option ℕ
 place_below i = if nat_lt i COUNT then Some i else None
 
@@ -108,7 +108,7 @@ place_below i = if nat_lt i COUNT then Some i else None
 unfoldable pub entry_at : ℕ → Entry
 entry_at i = get_or ENTRIES i (record { kind = Osc; key = 0; begin = Anything; number = pos 0 })
 
--- its parameter, alone, where it begins with one
+-- its parameter, alone, if it begins with one
 abbrev pub only_of : Begin → ℤ → List ℤ
 only_of Parameter n = n ∷ []
 only_of _ n = []
@@ -123,6 +123,6 @@ pub record IsRow (r : Row) : Type 0 where
   pub starts_so : r.start.now ≡ get_or starts r.place []
   pub told : r.told ≡ entry_at r.place
 
--- what is found is the row in this place, and nothing where there is no place
+-- the result is the row in this place, and nothing if there is no place
 abbrev pub Finds : Option ℕ → Option Row → Type 0
 Finds o found = MatchOption found (o ≡ None) (λ r. (o ≡ Some r.place) × IsRow r)

@@ -20,7 +20,7 @@ number_from has n (b ∷ bs) = if b == 0x3b then given has n
 abbrev pub number_in : List ℕ → Option ℕ
 number_in text = number_from false 0 text
 
--- what a text has after the first `;`
+-- the rest of a text after the first `;`
 abbrev pub after_mark : List ℕ → List ℕ
 after_mark [] = []
 after_mark (b ∷ bs) = if b == 0x3b then bs else after_mark bs

@@ -1,6 +1,6 @@
-//! What tells the rows of one key apart.
+//! The beginnings that tell the rows of one key apart.
 
-/// What a string has after its key.
+/// The beginning of a string after its key.
 #[derive(Clone, Copy, PartialEq, Eq)]
 pub enum Begin {
     /// Anything.

@@ -15,7 +15,7 @@ pub fn one_of_a_name()
     ensures { (i j : ℕ) → i < COUNT → j < COUNT → get_or names i [] ≡ get_or names j [] → i ≡ j }
 {}
 
-/// A row is found by what it begins with: no row before it hides it.
+/// A row is found by its beginning: no row before it hides it.
 #[tactic(auto, using(crate::proofs::TableLaws::found_by_start))]
 pub fn found_by_start()
     ensures { (i : ℕ) → i < COUNT → let e = entry_at i in

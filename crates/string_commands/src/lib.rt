@@ -1,9 +1,8 @@
 //! Control strings by name: one table of operating system commands, device control strings and
-//! application program commands, a row a command, with what it does and what the parts of its text
-//! are.
+//! application program commands, a row a command, with its description and the parts of its text.
 //!
-//! Of `ESC ] 133 ; A ST` the text is `133;A`, and `command(b"133;A")` is the row of the name
-//! `OSC 133;A`, whose words are "prompt starts, on a fresh line".
+//! The text of `ESC ] 133 ; A ST` is `133;A`, and `command(b"133;A")` is the row of the name `OSC
+//! 133;A`, whose words are "prompt starts, on a fresh line".
 #![tactic(auto)]
 
 pub mod begin;

@@ -1,6 +1,6 @@
 //! Kinds of control strings.
 
-/// What a control string is told apart by.
+/// The kind that tells a control string apart.
 #[derive(Clone, Copy, PartialEq, Eq)]
 pub enum StringKind {
     /// An operating system command that begins with a number.

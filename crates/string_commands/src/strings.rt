@@ -25,7 +25,7 @@ pub fn command(text: &[u8]) -> Option<Row>
 }
 
 /// The row of the device control string with this private prefix, this intermediate, this final
-/// byte, these parameters and these data, of which the beginning is enough.
+/// byte, these parameters and these data, whose beginning is enough.
 pub fn device(marks: (Option<u8>, Option<u8>), last: u8, params: &[i64], data: &[u8]) -> Option<Row>
     ensures { Finds (place_of_device marks.0 marks.1 last params.now data.now) result }
 {
@@ -65,14 +65,14 @@ fn number_in(text: &[u8]) -> Option<u32>
     given(has_digit, number)
 }
 
-// A number, where there is one.
+// A number, if there is one.
 fn given(has_digit: bool, number: u32) -> Option<u32>
     ensures { result ≡ given has_digit number }
 {
     if has_digit { Some(number) } else { None }
 }
 
-// What a text has after the first `;`.
+// The rest of a text after the first `;`.
 fn after_mark(text: &[u8]) -> &[u8]
     ensures { result.now ≡ after_mark text.now }
 {

@@ -10,12 +10,12 @@
 //! (<https://github.com/mintty/mintty/wiki/CtrlSeqs>), systemd
 //! (<https://uapi-group.org/specifications/specs/osc_context/>) and console_codes(4).
 //!
-//! Of device control strings: the VT510's manual (<https://vt100.net/docs/vt510-rm/chapter4.html>),
-//! DEC's manual of ReGIS (<https://vt100.net/docs/vt3xx-gp/chapter1.html>), xterm's list
-//! ("Device-Control functions"), tmux(1) and kitty's remote control
-//! (<https://sw.kovidgoyal.net/kitty/rc_protocol/>). Of application program commands: kitty's
-//! graphics protocol (<https://sw.kovidgoyal.net/kitty/graphics-protocol/>, "Control data
-//! reference").
+//! Device control strings come from the VT510's manual
+//! (<https://vt100.net/docs/vt510-rm/chapter4.html>), DEC's manual of ReGIS
+//! (<https://vt100.net/docs/vt3xx-gp/chapter1.html>), xterm's list ("Device-Control functions"),
+//! tmux(1) and kitty's remote control (<https://sw.kovidgoyal.net/kitty/rc_protocol/>). Application
+//! program commands come from kitty's graphics protocol
+//! (<https://sw.kovidgoyal.net/kitty/graphics-protocol/>, "Control data reference").
 
 ghost use Rattle.std.specs.Prelude.{◌≡◌, ◌<◌, IfSome, [], get_or, length, map};
 ghost use Rattle.string_commands.specs.Rows.{Finds, IsRow, place_below, place_named, place_of};
@@ -41,9 +41,9 @@ F:?name~$name/size~size/inline=1~shown/inline=0~stored/width~width/height~height
 preserveAspectRatio=0~ratio not kept/preserveAspectRatio=1~ratio kept/doNotMoveCursor=1~cursor not \
 moved/type~type";
 
-// A row a line: what the string is told apart by; what it does; where that is not what is said of
-// it before its parts, `said` and this, and `alone` and what is said where it has no part; of a
-// device control string the fields of its parameters; the fields of the rest of its text.
+// A row a line: the keys of the string; its description; if that is not also the words before its
+// parts, `said` and these, and `alone` and the words if it has no part; for a device control string
+// the fields of its parameters; the fields of the rest of its text.
 //
 //   Osc(NUMBER), Osc(NUMBER, PART)     an operating system command, of which the text after its
 //                                      number begins with the part
@@ -55,7 +55,7 @@ moved/type~type";
 //                                      an application program command: its name, its first byte,
 //                                      and a key that it has
 //
-// Of one key those that are told apart come first.
+// Among those of one key the ones that are told apart come first.
 macro_rules! strings {
     ($part:ident) => {
         each![$part;
@@ -431,7 +431,7 @@ fn text_in(texts: &[&'static str], index: usize) -> &'static str
     texts[index]
 }
 
-/// The row in this place, from 0 on, where there is one.
+/// The row in this place, from 0 on, if there is one.
 #[tactic(auto, using(crate::proofs::Places::row_below, crate::proofs::Places::no_row))]
 pub fn row_at(place: usize) -> Option<Row>
     ensures { Finds (place_below place) result }

@@ -89,7 +89,7 @@ macro_rules! part {
     };
 }
 
-// What is given, or this where nothing is.
+// The given text, or this if nothing is given.
 macro_rules! given {
     ($other:expr; []) => {
         $other

@@ -1,4 +1,4 @@
--- Ranges of characters of which none deceives.
+-- Ranges of characters, none of which deceives.
 use Rattle.std.proofs.Common.{◌≡◌, ℕ, ◌<◌, ◌≤◌, ◌&&◌, nat_le, ◌||◌, arith, Bool, true, false, nat_lt, List, [], ◌∷◌, refl, subst}
 use Rattle.std.specs.List.{list_all}
 use Rattle.std.proofs.lemmas.Bool.{and_parts, ne_eqb}

@@ -11,7 +11,7 @@ pub nothing_left : {X : Type 0} (l : List X) → length l ≡ 0 → l ≡ []
 nothing_left [] h = refl
 nothing_left (x ∷ xs) h = absurd (omega arith)
 
--- none is stray where none deceives
+-- none is stray if none deceives
 pub none_stray : (b : Option ℕ) (cs : List ℕ) → list_any is_deceiving cs ≡ false
     → has_stray b cs ≡ false
 none_stray b [] h = refl
@@ -36,7 +36,7 @@ encode_chars c u =
     chars_past_char (encode_utf8 c) [] c u (sym (append-nil (encode_utf8 c)))
     ∙ ap (λ cs. c ∷ cs) chars-nil
 
--- what comes before a character is UTF-8
+-- the text before a character is UTF-8
 before_last : (s r : List ℕ) (c : ℕ) → IsUtf8 s → IsUtf8 (encode_utf8 c)
     → s ≡ r ++ encode_utf8 c → IsUtf8 r
 before_last s r c u v e =

@@ -39,7 +39,7 @@ joins_letters c =
 abbrev pub joins_emoji : ℕ → Bool
 joins_emoji c = is_extended_pictographic c || (is_emoji_modifier c || (c == 0xfe0f))
 
--- This character belongs to the one before it, where there is one: a variation selector 15 or 16,
+-- This character belongs to the one before it, if there is one: a variation selector 15 or 16,
 -- which chooses how a character is shown (emoji-variation-sequences.txt), a joiner, or a
 -- non-joiner.
 abbrev pub belongs : Option ℕ → ℕ → Bool
@@ -65,7 +65,7 @@ abbrev pub has_stray : Option ℕ → List ℕ → Bool
 has_stray b [] = false
 has_stray b (c ∷ cs) = is_stray b c || has_stray (Some c) cs
 
--- the last of the characters, or the one before them where there are none
+-- the last of the characters, or the one before them if there are none
 abbrev pub last_of : Option ℕ → List ℕ → Option ℕ
 last_of b [] = b
 last_of b (c ∷ cs) = last_of (Some c) cs

@@ -1,4 +1,4 @@
--- What the bytes of a text say of the characters that deceive in it before any is decoded.
+-- The signs in the bytes of a text that characters deceive in it, before any is decoded.
 use Rattle.std.specs.Prelude.{ℕ, Bool, false, not, nat_le, nat_lt, ◌==◌, ◌&&◌, ◌||◌, List, [], ◌∷◌}
 use Rattle.unicode_visibility.specs.Characters.{is_among}
 

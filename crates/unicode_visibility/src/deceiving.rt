@@ -29,7 +29,7 @@ pub fn is_deceiving(c: char) -> bool
     c == '\u{2028}' || c == '\u{2029}'
 }
 
-// Whether it is in a long range of characters of which none deceives.
+// Whether it is in a long range of characters, none of which deceives.
 #[inline]
 fn is_far(number: u32) -> bool
     ensures { IsTrue result → is_deceiving number ≡ false }
@@ -46,8 +46,8 @@ fn is_far(number: u32) -> bool
     }
 }
 
-/// Whether one of the characters of a text is. No character is decoded where the bytes of the text
-/// say that there is none.
+/// Whether one of the characters of a text is. No character is decoded if the bytes of the text say
+/// that there is none.
 pub fn has_deceiving(text: &str) -> bool
     ensures { result ≡ list_any is_deceiving (chars text.now) }
 {

@@ -16,12 +16,11 @@ use ucd_script::Script;
 ///   `emoji-variation-sequences.txt` of UTS #51, which are the digits, `#` and `*` too;
 /// - a joiner, U+200D, after a pictograph, a modifier of its colour or U+FE0F (UTS #51);
 /// - a joiner or a non-joiner, U+200D or U+200C, after a letter of a script whose letters join or a
-///   mark of Arabic on one, and after a virama (UAX #31, 2.3.1, of whose rules A1, A2 and B this is
-///   what can be told by the character before).
+///   mark of Arabic on one, and after a virama (UAX #31, 2.3.1: the part of its rules A1, A2 and B
+///   that the character before can tell).
 ///
 /// No other character does: none that changes the direction of a text, and no tag (U+E0020 to
-/// U+E007F), not those in a flag either. It is false for whatever comes where no character is
-/// before it.
+/// U+E007F), not those in a flag either. It is false for any character with none before it.
 pub fn belongs(before: Option<char>, c: char) -> bool
     ensures { result ≡ belongs before c }
 {
@@ -114,7 +113,7 @@ pub fn is_stray(before: Option<char>, c: char) -> bool
 }
 
 /// Whether one of the characters of a text, which comes after this character, is stray. No
-/// character is decoded where the bytes of the text say that none deceives.
+/// character is decoded if the bytes of the text say that none deceives.
 #[inline]
 pub fn has_stray(before: Option<char>, text: &str) -> bool
     ensures { result ≡ has_stray before (chars text.now) }
@@ -140,7 +139,7 @@ fn is_some_stray(before: Option<char>, text: &str) -> bool
     false
 }
 
-/// The last character of a text, or the one before it where the text is empty.
+/// The last character of a text, or the one before it if the text is empty.
 #[inline]
 pub fn last_char(before: Option<char>, text: &str) -> Option<char>
     ensures { result ≡ last_of before (chars text.now) }

@@ -1,5 +1,5 @@
 //! Characters that a reader of a text sees as they are, and those that hide, deceive or steer a
-//! terminal, with what is written in their place: a part of `esc_filter`, `caret_notation` and
+//! terminal, with the text in their place: a part of `esc_filter`, `caret_notation` and
 //! `command_line`.
 //!
 //! [`is_shown`] says which characters show as themselves, [`is_deceiving`] which hide or reorder

@@ -117,7 +117,7 @@ writes_back [] h = absurd (h.0 refl)
 writes_back (n ∷ ns) h =
     (names_bytes (n ∷ ns) h.1, ap (map name_of) (hex_split n ns h.1) ∙ names_back (n ∷ ns) h.1)
 
--- what is read can be written
+-- a name that is read can be written
 name_is_text : {E : Type 0} (p : List ℕ) (r : Result (List ℕ) E) → IsUtf8 (name_by p r)
 name_is_text p (Ok bytes) = lossy_is_text bytes
 name_is_text p (Err e) = lossy_is_text p

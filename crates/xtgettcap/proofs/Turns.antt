@@ -7,11 +7,11 @@ use Rattle.std.specs.declared.fmt.Formatter.{Formatter}
 use Rattle.std.proofs.lemmas.Grind.{put_two}
 use Rattle.std.proofs.lemmas.List.{flat_map_more, map-append, take_more}
 
--- a slice, where there is none
+-- a slice, if there is none
 abbrev pub no_slice : Bor (List ℕ)
 no_slice = record { ref_ptr = (0, 0); now = [] }
 
--- what a slice means
+-- the meaning of a slice
 pub meant_more : {X : Type 0} (name : List ℕ → List ℕ) (f : X → List ℕ) (xs : List X) (i : ℕ)
     (d : X) (made after : List (List ℕ)) (y : List ℕ) → i < length xs → y ≡ name (f (get_or xs i d))
     → after ≡ made ++ y ∷ [] → made ≡ map name (map f (take i xs))

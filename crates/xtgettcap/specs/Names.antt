@@ -7,7 +7,7 @@ use Rattle.std.specs.Str.Lossy.{utf8_lossy}
 use Rattle.hex.specs.Hex.{decode_of}
 use Rattle.xtgettcap.specs.declared.builder.GetTcapBuilder.{GetTcapBuilder}
 
--- the text of the bytes that a slice encodes in hexadecimal; of the slice itself where it is not
+-- the text of the bytes that a slice encodes in hexadecimal; of the slice itself if it is not
 -- hexadecimal
 abbrev pub name_by : {E : Type 0} → List ℕ → Result (List ℕ) E → List ℕ
 name_by p (Ok bytes) = utf8_lossy bytes
@@ -58,6 +58,6 @@ abbrev pub is_query_byte : ℕ → Bool
 is_query_byte b =
     (nat_le 0x30 b && nat_le b 0x39) || ((b == 0x3b) || (nat_le 0x61 b && nat_le b 0x66))
 
--- the names are written as digits and `;`, of which they are read
+-- the names are written as digits and `;`, from which they are read
 abbrev pub WritesBack : List (List ℕ) → Type 0
 WritesBack ns = (list_all is_query_byte (names_text ns) ≡ true) × (names_of (names_text ns) ≡ ns)

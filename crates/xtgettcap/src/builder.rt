@@ -13,7 +13,7 @@ use std::mem;
 /// one empty name.
 ///
 /// A name that is hexadecimal with an even number of digits means the text of its bytes, any other
-/// its own text; what is not UTF-8 in it is read as U+FFFD.
+/// its own text; bytes in it that are not UTF-8 are read as U+FFFD.
 #[derive(Drop)]
 pub struct GetTcapBuilder<A: Allocator = Global> {
     alloc: A,
@@ -74,7 +74,7 @@ impl<A: Allocator + Copy> GetTcapBuilder<A> {
     }
 }
 
-// Appends bytes. Of none it takes no memory.
+// Appends bytes. For none it takes no memory.
 fn extend<A: Allocator>(all: &mut Vec<u8, A>, bytes: &[u8]) -> Result<(), AllocError>
     ensures items { all.new.items
         ≡ (if is_ok result then all.old.items ++ bytes.now else all.old.items) }
@@ -96,7 +96,7 @@ fn split_at_separators<A: Allocator>(alloc: A, bytes: &[u8]) -> Result<Vec<&[u8]
     fallible_alloc::collect(alloc, bytes.split(|b| *b == b';'))
 }
 
-// What each slice means.
+// The meaning of each slice.
 fn read_names<A: Allocator + Copy>(
     alloc: A,
     slices: &[&[u8]],

@@ -25,7 +25,7 @@ pub(crate) fn read_name<A: Allocator + Copy>(alloc: A, slice: &[u8]) -> Result<T
     }
 }
 
-// The text of these bytes, with U+FFFD where they are not UTF-8. They are copied only then.
+// The text of these bytes, with U+FFFD for those that are not UTF-8. They are copied only then.
 fn into_lossy<A: Allocator>(alloc: A, bytes: Vec<u8, A>) -> Result<Text<A>, AllocError>
     ensures ok { IfOk result (λ t. t ≡ utf8_lossy bytes.items) }
     ensures refused { OnErr result (Refused A) }
@@ -36,7 +36,7 @@ fn into_lossy<A: Allocator>(alloc: A, bytes: Vec<u8, A>) -> Result<Text<A>, Allo
     }
 }
 
-// The text of these bytes, with U+FFFD where they are not UTF-8.
+// The text of these bytes, with U+FFFD for those that are not UTF-8.
 fn lossy<A: Allocator>(alloc: A, bytes: &[u8]) -> Result<Text<A>, AllocError>
     ensures ok { IfOk result (λ t. t ≡ utf8_lossy bytes.now) }
     ensures refused { OnErr result (Refused A) }

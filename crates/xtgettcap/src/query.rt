@@ -16,7 +16,7 @@ pub struct TcapQuery<'a, A: Allocator = Global>(pub &'a [Text<A>]);
 /// Writes `ESC P + q` and the names, with `;` between them and two lower-case digits a byte,
 /// without the string terminator. No names are written as one empty name is.
 ///
-/// Takes no memory, and errs only where the formatter's writer errs.
+/// Takes no memory, and errs only if the formatter's writer errs.
 impl<A: Allocator> fmt::Display for TcapQuery<'_, A> {
     ghost output = { λ q. Some (query_text q.0.now) };
 

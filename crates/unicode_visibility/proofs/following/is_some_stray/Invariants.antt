@@ -3,7 +3,7 @@ use Rattle.std.specs.Str.Iter.{chars_rest}
 use Rattle.unicode_visibility.specs.Following.{has_stray}
 use Rattle.unicode_visibility.proofs.following.is_some_stray.Given as goal
 
--- what those that are left have after the last is what all have after the first
+-- the rest has a stray one after the last character so far exactly if the whole text has one
 abbrev pub invariant-loop-c : goal.invariant-loop-c
 invariant-loop-c l =
     IsUtf8 (chars_rest l.c-iterator)

@@ -2,7 +2,7 @@ use Rattle.std.proofs.Common.{◌≡◌, ◌-◌, false, drop}
 use Rattle.unicode_visibility.specs.Signs.{has_hint}
 use Rattle.unicode_visibility.proofs.signs.has_hint.Given as goal
 
--- where the bytes from this place on have none, all have none
+-- if the bytes from this place on have none, all have none
 abbrev pub invariant-loop-at : goal.invariant-loop-at
 invariant-loop-at l = has_hint (drop l.at l.fn.bytes) ≡ false → has_hint l.fn.bytes ≡ false
 
