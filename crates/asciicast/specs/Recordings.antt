@@ -99,7 +99,7 @@ pub record IsEventOf (t k d line : List ℕ) : Type 0 where
   pub text : line ≡ print (event_tokens t k d) ++ 0x0a ∷ []
   pub reads : tokens (print (event_tokens t k d)) ≡ event_tokens t k d
 
--- of output
+-- the line is such an event of output
 abbrev pub IsEvent : List ℕ → List ℕ → List ℕ → Type 0
 IsEvent t d line = IsEventOf t (codes "o") d line
 

@@ -80,9 +80,8 @@ impl<R: Files + AllocGlobal> NewFile<R> {
     /// under its name with this suffix, if there is one. At each moment there is a file of its
     /// name, the old one or this.
     ///
-    /// Where it is not whole, or after an error, it is removed, and the file of its place stays as
-    /// it is. The error says why: there is a file with the suffix already, or the system refuses
-    /// it.
+    /// If it is not whole, or after an error, it is removed, and the file of its place stays as it
+    /// is. The error says why: there is a file with the suffix already, or the system refuses it.
     pub fn end<'a>(self, rt: &R, suffix: &'a str, is_whole: bool) -> Result<(), FileFault<'a>> {
         if !is_whole {
             self.give_up(rt);

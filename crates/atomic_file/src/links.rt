@@ -1,4 +1,4 @@
-//! Where symbolic links lead.
+//! The targets of symbolic links.
 
 use std::fs::{Files, metadata, read_link, symlink_metadata};
 use std::io;

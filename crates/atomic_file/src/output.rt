@@ -1,4 +1,4 @@
-//! Where a program's output goes that is given the name of a file.
+//! The output of a program that is given the name of a file.
 
 use crate::NewFile;
 use crate::fault::FileFault;
@@ -9,7 +9,7 @@ use std::fs::{OpenOptions, metadata};
 use std::io;
 use std::io::{ErrorKind, IsTerminal, Write};
 
-/// Where a program's output goes that is given the name of a file.
+/// The output of a program that is given the name of a file.
 #[derive(Drop)]
 pub enum Output {
     /// To a new file, which is to take the place of the one of this name, or of none.

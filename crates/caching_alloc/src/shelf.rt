@@ -63,7 +63,7 @@ impl<A: Allocator> Shelf<A> {
         }
     }
 
-    // Keeps the block. Where four are kept already, the one that was kept first goes back.
+    // Keeps the block. If four are kept already, the one that was kept first goes back.
     #[inline]
     pub(crate) fn give(&self, alloc: &A, block: Block<A>)
         requires { (self.now.first.0 ≡ alloc.now) × (block.alloc ≡ self.now.first.0)

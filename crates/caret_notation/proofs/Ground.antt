@@ -1,4 +1,4 @@
--- Where no segment is unfinished.
+-- Places with no segment unfinished.
 use Rattle.std.proofs.Common.{ℕ, ◌≡◌, ◌↔◌, Bool, true, false, IsTrue, List, refl, ap, sym}
 use Rattle.esc_frame.proofs.Cut.CutAtGround.{from_ground, to_ground}
 use Rattle.esc_frame.specs.Leads.{Unfinished}

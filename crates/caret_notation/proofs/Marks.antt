@@ -33,7 +33,7 @@ unmarked_stays marking.Reversed x h = refl
 pub nothing_stays : (m : Marking) → lets_stay m [] ≡ true
 nothing_stays m = unmarked_stays m [] refl
 
--- of some of the first bytes
+-- the same for some of the first bytes
 pub shorter_unmarked : (m : Marking) (x : List ℕ) (k n : ℕ) → k ≤ n
     → list_any is_mark (take k (take n x)) ≡ false → lets_stay m (take k x) ≡ true
 shorter_unmarked m x k n l h =

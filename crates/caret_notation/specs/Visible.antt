@@ -97,7 +97,7 @@ abbrev pub shown_text : Marking → List ℕ → List ℕ
 shown_text m [] = []
 shown_text m (b ∷ p) = opening m ++ (visible_text (b ∷ p) ++ closing m)
 
--- of a piece that has not ended nothing is written, but once it is longer than the limit: then it
+-- nothing is written for a piece that has not ended, until it is longer than the limit: then it
 -- cannot be kept
 abbrev pub rest_text : Marking → ℕ → List ℕ → List ℕ
 rest_text m limit r = if nat_le (length r) limit then [] else opening m ++ settled_text [] r

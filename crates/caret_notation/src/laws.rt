@@ -60,7 +60,7 @@ pub fn escaped_reads_back<A: Allocator>()
         → read_back (revealed_whole_as Marking.Escaped by_lines limit admits s) ≡ s }
 {}
 
-/// Where they are not, the same of a stream that has no `^` and no `<`.
+/// If they are not, the same for a stream that has no `^` and no `<`.
 #[tactic(auto, using(crate::proofs::Back::unmarked_reads))]
 pub fn unmarked_reads_back<A: Allocator>()
     ensures { (by_lines : Bool) (limit : ℕ) (admits : Value A → Bool) (s : List ℕ)

@@ -11,12 +11,12 @@ use crate::visible::{push_next, push_stray};
 use esc_frame::utf8::sequence::Pending;
 use std::alloc::{AllocError, Allocator};
 
-/// Appends the visible text of `bytes`: of each well-formed character of UTF-8 (Unicode, Table 3-7)
-/// and of each byte that is no part of one. Controls are `^X` and `^?`, as `cat -v` writes them;
-/// `^`, `<` and bytes that are no part of a character are their numbers, as `<9D>`; characters that
-/// do not show as themselves, among them C1 and those that have no width or change the direction of
-/// text, are `<U+202E>`, as `less` writes both; any other character is itself. So the text can be
-/// read back as `bytes`.
+/// Appends the visible text of `bytes`: the texts of each well-formed character of UTF-8 (Unicode,
+/// Table 3-7) and of each byte that is no part of one. Controls are `^X` and `^?`, as `cat -v`
+/// writes them; `^`, `<` and bytes that are no part of a character are their numbers, as `<9D>`;
+/// characters that do not show as themselves, among them C1 and those that have no width or change
+/// the direction of text, are `<U+202E>`, as `less` writes both; any other character is itself. So
+/// the text can be read back as `bytes`.
 ///
 /// The error says that memory was refused: a part of the text was appended then.
 pub fn push_visible<A: Allocator>(text: &mut Vec<u8, A>, bytes: &[u8]) -> Result<(), AllocError>
@@ -66,7 +66,7 @@ pub(crate) fn push_runs<A: Allocator>(
     Ok(last)
 }
 
-// The same of some of these bytes, one at least, and how many.
+// The same for some of these bytes, at least one, and how many.
 fn push_some<A: Allocator>(
     text: &mut Vec<u8, A>,
     begun: Pending,

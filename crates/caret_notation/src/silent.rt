@@ -7,7 +7,7 @@ use esc_frame::{VTActor, VTParser};
 use esc_values::CsiParam;
 use std::alloc::{AllocError, Allocator};
 
-/// Frames some of these bytes, one at least, and returns how many: all but the last leave a segment
+/// Frames some of these bytes, at least one, and returns how many: all but the last leave a segment
 /// unfinished.
 pub(crate) fn frame_some<A: Allocator>(
     framer: &mut VTParser<A>,

@@ -31,9 +31,10 @@ use std::alloc::{AllocError, Global};
 ///   byte by byte, how many chunks of data that are.
 /// - `sixel-value`: whether there is a text of an image, of this value of six pixels, of the image
 ///   with it last, and of the image with it amid others.
-/// - `query-again`: how many names a termcap query has, byte by byte, that is written as it came.
-/// - `segments`: the kind and the length of each; `segment-count`, of those that are of the kind of
-///   the first, how many they are, and of how many bytes.
+/// - `query-again`: the number of names of a termcap query, byte by byte, that is written as it
+///   came.
+/// - `segments`: the kind and the length of each; `segment-count`: the number of those of the first
+///   one's kind, and of their bytes.
 /// - `html` and `html-by-lines`: the HTML of a stream, with the tags that close it; `safe-address`:
 ///   whether a link of a page may lead to it.
 /// - `left`: the final lines of a stream; `left-of-2-by-4`: the same if 2 rows of 4 columns may be

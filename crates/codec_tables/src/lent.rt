@@ -40,7 +40,7 @@ fn is_noise_same(alloc: Global, input_chunks: &[&[u8]], seed: u64) -> bool {
     }
 }
 
-// How many streams of noise there are, and of how many chunks.
+// The number of streams of noise, and of the chunks of each.
 const NOISES: u64 = 400;
 
 const LENGTH: usize = 60;

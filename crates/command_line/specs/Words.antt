@@ -98,15 +98,15 @@ abbrev pub given_of : Option Known → List ℕ → List (List ℕ × List ℕ �
 given_of None v = []
 given_of (Some o) v = said_by o v ∷ []
 
--- of the option that a word has the name or the letter of, with this value; or else of the one to
--- whose letter its value is joined
+-- the same for the option that a word has the name or the letter of, with this value; or else for
+-- the one to whose letter its value is joined
 abbrev pub given_or : Option Known → List ℕ → Option (Known × List ℕ)
     → List (List ℕ × List ℕ × ℕ × ℕ)
 given_or (Some o) v j = given_of (Some o) v
 given_or None v None = []
 given_or None v (Some j) = given_of (Some j.0) j.1
 
--- of the option that a word names, before these words
+-- the same for the option that a word names, before these words
 abbrev pub given_by : List Known → List ℕ → List (List ℕ) → List (List ℕ × List ℕ × ℕ × ℕ)
 given_by known w ws =
     given_or (option_named known (name_in w)) (value_of known w ws)

@@ -21,7 +21,7 @@ pub const USAGE_FAULT: u8 = 2;
 // That of a program which the signal SIGPIPE ends, as a shell gives it: 128 and 13.
 const CLOSED: u8 = 141;
 
-/// How a stream ended.
+/// The end of a stream.
 #[derive(Clone, Copy, PartialEq, Eq)]
 pub enum Ended {
     /// It was read to its end, and its output was written.
@@ -119,7 +119,7 @@ pub fn unwritten<E: Write>(program: &str, output: &str, reason: Reason, faults: 
     Ended::Unwritten
 }
 
-/// Where a stream ended early.
+/// The place of an early end of a stream.
 #[derive(Clone, Copy)]
 pub enum Place<'a> {
     /// At its input, which has this name.
@@ -146,7 +146,7 @@ pub fn ended_by<D: Display + Drop, E: Write>(
     }
 }
 
-// How a stream ended that this error ended early.
+// The end of a stream that this error ended early.
 fn hindered<D: Display + Drop, E: Write>(
     program: &str,
     place: Place<'_>,

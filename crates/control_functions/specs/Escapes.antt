@@ -31,7 +31,7 @@ words_of f = get_or (map (λ w. w.now) WORDS) (place f) []
 unfoldable pub rows_of : ℕ → List (Row EscapeFunction)
 rows_of i = group ROWS STARTS i
 
--- the function that has this key: of the rows whose sequence ends in the byte that the key ends in
+-- the function that has this key, among the rows whose sequence ends in the last byte of the key
 unfoldable pub function_of : ℕ → Option EscapeFunction
 function_of k = first_grouped (λ r. r.key) (λ r. r.function) rows_of 0x20 k
 

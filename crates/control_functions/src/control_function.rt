@@ -5,7 +5,7 @@
 /// [`name`](ControlFunction::name) and [`words`](ControlFunction::words); the whole table is in
 /// docs/FUNCTIONS.md.
 ///
-/// Where two sequences have one name, as DECRQM of modes of ECMA-48 and of private modes, one has a
+/// If two sequences have one name, as DECRQM of modes of ECMA-48 and of private modes, one has a
 /// name of its own here.
 #[derive(Clone, Copy, PartialEq, Eq)]
 pub enum ControlFunction {

@@ -1,4 +1,4 @@
-//! Where a function comes from.
+//! The standard of a function.
 
 /// The standard, or the terminal, that has a control function first.
 #[derive(Clone, Copy, Debug, PartialEq, Eq)]

@@ -8,7 +8,7 @@ macro_rules! rows {
     };
 }
 
-// A row of a function: of one that has no parameters they are left out.
+// A row of a function; if it has no parameters they are left out.
 macro_rules! row {
     ($function:expr, $key:expr, $effect:ident, $standard:ident) => {
         row!($function, $key, $effect, Nothing, $standard)

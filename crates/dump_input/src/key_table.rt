@@ -3,8 +3,8 @@
 //! The sources: xterm's list (<https://invisible-island.net/xterm/ctlseqs/ctlseqs.html>, "Function
 //! Keys" and "VT220-Style Function Keys"), the VT510's manual, chapter 8
 //! (<https://vt100.net/docs/vt510-rm/chapter8.html>), urxvt(7), console_codes(4), and the key
-//! capabilities of terminfo(5) in ncurses's database. Where terminals differ the commonest key
-//! comes first, and a terminal's name after its own.
+//! capabilities of terminfo(5) in ncurses's database. If terminals differ the commonest key comes
+//! first, and a terminal's name after its own.
 //!
 //! A row is a line: a letter or a number, a space, and the key.
 

@@ -124,7 +124,7 @@ impl Phrase {
         self.begin_named(Name(kind, name, Key::Nothing), words);
     }
 
-    /// The same, of a name that may have a key.
+    /// The same for a name that may have a key.
     pub fn begin_named(&mut self, name: Name, words: &'static str) {
         if !self.text.is_empty() {
             self.add("; ");

@@ -55,7 +55,7 @@ ends_in [] x = refl
 ends_in (y ∷ []) x = refl
 ends_in (y ∷ z ∷ xs) x = ends_in (z ∷ xs) x
 
--- of lists of actions
+-- the same for lists of actions
 pub joined_said : {A : Type 0} (was now xs : List (Action A)) (x y : Action A) (w : Value A)
     → was ≡ xs ++ x ∷ [] → now ≡ xs ++ y ∷ []
     → value_of y ∷ [] ≡ joined_values (value_of x) w → map value_of now

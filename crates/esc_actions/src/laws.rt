@@ -168,7 +168,7 @@ pub fn meaning_of_more<A: Allocator>()
         ≡ meaning_within limit (s ++ b) }
 {}
 
-/// Where no segment of a stream is unfinished, nothing is unfinished of its actions.
+/// If no segment of a stream is unfinished, none of its actions is.
 pub fn plain_at_ground()
     ensures { (limit : Option ℕ) (s : List ℕ) → IsAtGround s
         → mode_from plain (events_within limit s) ≡ plain }
@@ -204,7 +204,7 @@ pub fn means_writable<A: Allocator>()
     handed_out::<A>();
 }
 
-/// Where a stream means a writable list, the text of this list means a list with the same text.
+/// If a stream means a writable list, the text of this list means a list with the same text.
 pub fn normal_once<A: Allocator>()
     ensures { (s : List ℕ) → AreWritable {A = A} (meaning s)
         → list_text (meaning {A = A} (list_text (meaning {A = A} s)))

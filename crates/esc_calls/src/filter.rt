@@ -45,7 +45,7 @@ pub(crate) fn policy_of(number: u32) -> Option<Policy>
     }
 }
 
-// The same, of a policy that there is.
+// The same for a policy that there is.
 fn filter_by(
     alloc: Global,
     policy: Policy,

@@ -29,7 +29,7 @@ pub(crate) fn put_from(text: &[u8], from: usize, out: &mut [u8]) -> usize
     put(rest, out).min(out.len())
 }
 
-/// Writes a text, as much of it as fits, and its length. Where there is none it writes nothing, and
+/// Writes a text, as much of it as fits, and its length. If there is none it writes nothing, and
 /// the status says why.
 pub(crate) fn put_text(text: Result<Text, Refusal>, out: &mut [u8], needed: &mut usize) -> u32
     ensures written { IfOk text (λ t. (result ≡ DONE) × Puts t out.old out.new needed.new) }

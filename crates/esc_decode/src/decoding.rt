@@ -18,7 +18,7 @@ use std::alloc::{AllocError, Allocator, Global};
 #[derive(Drop)]
 pub struct Decoding<F, A: Allocator = Global> {
     encoding: Encoding,
-    // of a character
+    // the begun bytes of a character
     begun: Pending,
     filter: F,
     // the decoded text of the last chunk that did not stay

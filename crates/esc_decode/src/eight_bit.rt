@@ -23,7 +23,7 @@ pub(crate) fn push_characters<A: Allocator>(
     Ok(())
 }
 
-// The same of some of these bytes, one at least, and how many.
+// The same for some of these bytes, at least one, and how many.
 fn push_some<A: Allocator>(
     text: &mut Vec<u8, A>,
     table: &[u16; 128],

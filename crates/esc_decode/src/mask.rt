@@ -10,7 +10,7 @@ use esc_frame::utf8::sequence::{Outcome, Pending, lies_from};
 /// byte 80 to 9F that is no part of a well-formed character is FF.
 #[derive(Clone, Copy)]
 pub struct Mask {
-    // of a character
+    // the begun bytes of a character
     begun: Pending,
 }
 

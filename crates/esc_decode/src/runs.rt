@@ -46,7 +46,7 @@ fn first_blocks(begun: Pending, bytes: &[u8]) -> usize
     }
 }
 
-// The same of some of these bytes, one at least, and how many.
+// The same for some of these bytes, at least one, and how many.
 fn look_some(begun: Pending, bytes: &[u8], is_early: bool) -> (Pending, usize, bool)
     requires { 0 < length bytes.now }
     ensures count { (0 < result.1) × (result.1 ≤ length bytes.now) }

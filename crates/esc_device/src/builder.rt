@@ -53,8 +53,8 @@ impl<A: Allocator> ShortBuilder<A> {
         self.short.content.push(byte)
     }
 
-    /// These bytes of the data, as `push` of each takes them. The error is that memory was refused;
-    /// the builder has then taken those before the byte that needed it, and no more.
+    /// These bytes of the data, with the effect of a `push` of each. The error is that memory was
+    /// refused; the builder has then taken those before the byte that needed it, and no more.
     pub fn push_run(&mut self, bytes: &[u8]) -> Result<(), AllocError>
         ensures each { OnOk result (FoldsTo Pushes self.old bytes.now self.new) }
         ensures ok { (ps : List ℤ) (is : List ℕ) (f : ℕ) (d : List ℕ)

@@ -204,7 +204,7 @@ given_back keeps =
 abbrev pub keeps_cursor : {A : Type 0} → (Value A → Bool) → Bool
 keeps_cursor admits = admits (escape None 0x37) && admits (escape None 0x38)
 
--- the values that undo the changes of these values, for a policy that admits what `admits` says
+-- the values that undo the changes of these values, for a policy that admits the values of `admits`
 abbrev pub closing : {A : Type 0} → (Value A → Bool) → List (Value A) → List (Value A)
 closing admits vs = given_back (keeps_cursor admits) (after_values vs unchanged)
 

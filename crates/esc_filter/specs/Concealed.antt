@@ -29,7 +29,7 @@ number_at i es = first_number (drop i es)
 abbrev pub has_number : ℕ → List CsiParam → Bool
 has_number i es = is_some (number_at i es)
 
--- of `;5;n` (a colour of the palette) and `;2;r;g;b` how many parameters that are
+-- the number of parameters in `;5;n` (a colour of the palette) and in `;2;r;g;b`
 abbrev pub length_by : Option ℤ → List CsiParam → ℕ
 length_by None es = 0
 length_by (Some (negsuc n)) es = 0

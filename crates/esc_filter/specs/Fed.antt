@@ -56,7 +56,7 @@ abbrev pub HasConsumedIn : {P A : Type 0} → Guard → Bool → ℕ → (Value 
 HasConsumedIn u by_lines limit admits s f = ParserHasConsumedWithin (Some limit) s f.parser
     × HasNoted by_lines u (passed_as u (Some limit) (in_lines by_lines admits) s) f.written
 
--- of a stream that is one, if they are kept
+-- the same for a stream that is one, if they are kept
 abbrev pub HasConsumed : {P A : Type 0} → ℕ → (Value A → Bool) → List ℕ → Filter P A → Type 0
 HasConsumed limit admits s f = HasConsumedIn keep_all false limit admits s f
 

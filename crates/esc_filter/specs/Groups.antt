@@ -246,6 +246,6 @@ shows all v = true
 abbrev pub admits_groups : {A : Type 0} → Groups → Value A → Bool
 admits_groups g v = leads g.schemes v && (shows (has g group.Other) v && has g (group_of v))
 
--- of control sequences
+-- the same for control sequences
 abbrev pub has_sequence : Groups → CsiValue → Bool
 has_sequence g c = has g (of_sequence c)

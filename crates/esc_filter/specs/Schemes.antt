@@ -1,4 +1,4 @@
--- Where links lead: the schemes of their addresses (RFC 3986, 3.1).
+-- The targets of links: the schemes of their addresses (RFC 3986, 3.1).
 use Rattle.std.specs.Prelude.{ℕ, Bool, true, false, not, ◌==◌, ◌&&◌, ◌||◌, List, [], ◌∷◌, length, take, drop, Option, Some}
 use Rattle.std.specs.Char.{is_ascii_alphabetic, is_ascii_alphanumeric}
 use Rattle.std.specs.Borrow.{Bor}

@@ -45,8 +45,8 @@ pub trait Admit<A: Allocator> {
         Known::nothing()
     }
 
-    /// Whether each character of a run of text, 20 to 7F and one byte each, may pass. Where it
-    /// returns false, each of them is asked of by itself; so it does by default.
+    /// Whether each character of a run of text, 20 to 7F and one byte each, may pass. If it returns
+    /// false, it is asked about each of them by itself; so it does by default.
     #[inline]
     fn admits_text(&self, _text: &[u8]) -> bool
         ensures { IsTrue result → list_all (λ c. admits self.now (print c)) _text.now ≡ true }
@@ -86,8 +86,8 @@ pub trait Admit<A: Allocator> {
         None
     }
 
-    /// Whether an image, of kitty's protocol or sixel, may be admitted. Where it returns false, as
-    /// it does not by default, none is made.
+    /// Whether an image, of kitty's protocol or sixel, may be admitted. If it returns false, as it
+    /// does not by default, none is made.
     #[inline]
     fn admits_images(&self) -> bool
         ensures { result ≡ false → (v : Value A) → is_image v ≡ true → admits self.now v ≡ false }

@@ -100,8 +100,8 @@ static ESCAPE_CHARSETS: [u32; 8] = [
     key!(b'#', b'6'),
 ];
 
-// The group of a function that changes the screen alone, at least with some parameters; of any
-// other `Other`.
+// The group of a function that changes the screen alone, at least with some parameters; `Other` for
+// any other.
 pub(crate) fn group_of_function(function: ControlFunction) -> Group
     ensures { result ≡ of_function function }
 {

@@ -20,7 +20,7 @@ use std::alloc::Allocator;
 /// not pass, links with DEL or characters that deceive do not either.
 #[derive(Clone, Copy, Debug)]
 pub struct Groups<'a> {
-    // of each group, in their order, whether it passes
+    // whether each group passes, in their order
     allowed: [bool; 16],
     // the schemes of the links that pass, with `,` between them; if there are none, all schemes
     // pass

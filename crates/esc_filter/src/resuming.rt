@@ -191,7 +191,7 @@ impl<P: Admit<A>, A: Allocator + Copy> ResumingFilter<P, A> {
         }
     }
 
-    // Where a line begins, feeds the filter of lines the renditions that go on.
+    // At the beginning of a line, feeds the filter of lines the renditions that go on.
     fn resume(&mut self) -> Result<(), AllocError>
         ensures given { OnStream P.Admit self.old (λ k u limit admits d. ends_line true d ≡ true
             → OnOk result (GrowsBy u admits limit d (opening_at k u limit admits d)

@@ -1,4 +1,4 @@
-//! Where links lead.
+//! The targets of links.
 ghost use Rattle.std.specs.Prelude.{◌≡◌};
 ghost use Rattle.std.specs.List.{list_all};
 ghost use Rattle.esc_actions.specs.Values.{value_of};

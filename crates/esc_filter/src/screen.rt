@@ -80,7 +80,7 @@ fn is_screen_sequence<A: Allocator>(csi: &CSI<A>) -> bool
     }
 }
 
-// The same, of a sequence that has no name of its own. That the plain ones from ICH to DL change
+// The same for a sequence that has no name of its own. That the plain ones from ICH to DL change
 // the screen alone is known before the table is asked.
 #[tactic(auto, using(crate::proofs::GivingBack::ScreenFunctions::plain_moves))]
 #[inline]

@@ -259,8 +259,8 @@ impl<A: Allocator> Written<A> {
         }
     }
 
-    /// Appends a link to an address that is written as it came, or the end of one, and notes it.
-    /// Where this is not seen at once to be the command of this text, it returns false.
+    /// Appends a link to an address that is written as it came, or the end of one, and notes it. If
+    /// it is not seen at once that this is the command of this text, it returns false.
     #[inline]
     pub fn append_link(&mut self, text: &[u8]) -> Result<bool, AllocError>
         ensures taken { IfOk result (λ b. IsTrue b

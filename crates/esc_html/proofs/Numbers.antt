@@ -31,7 +31,7 @@ alone n =
     ap (λ k. map selection_of (take (len_before k (Integer n ∷ [])) (Integer n ∷ [])
     ∷ cut_after separators (len_before k (Integer n ∷ [])) [])) (none_after (byte_of (Integer n)))
 
--- of this control function, by its key
+-- this control function, by its key
 named : function_of 365 ≡ Some control.SGR
 unfolding function_of rows_of
 named = refl

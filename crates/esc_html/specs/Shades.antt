@@ -28,7 +28,7 @@ ansi_rgb ansi.BrightMagenta = (0x9a, 0x3f, 0xd5)
 ansi_rgb ansi.BrightCyan = (0x1b, 0x7c, 0x83)
 ansi_rgb ansi.BrightWhite = (0x42, 0x4a, 0x53)
 
--- of characters on a dark ground
+-- the colours of characters on a dark ground
 abbrev pub light_rgb : AnsiColor → ℕ × ℕ × ℕ
 light_rgb ansi.Black = (0x00, 0x00, 0x00)
 light_rgb ansi.Red = (0xff, 0x7b, 0x72)
@@ -47,7 +47,7 @@ light_rgb ansi.BrightMagenta = (0xd2, 0xa8, 0xff)
 light_rgb ansi.BrightCyan = (0x56, 0xd4, 0xdd)
 light_rgb ansi.BrightWhite = (0xff, 0xff, 0xff)
 
--- of characters on a light ground
+-- the colours of characters on a light ground
 abbrev pub dark_rgb : AnsiColor → ℕ × ℕ × ℕ
 dark_rgb ansi.Black = (0x00, 0x00, 0x00)
 dark_rgb ansi.White = (0xff, 0xff, 0xff)

@@ -13,8 +13,8 @@ use esc_values::{Items, Text};
 use fallible_alloc::extend;
 use std::alloc::{AllocError, Allocator};
 
-/// Where the characters lead that come after a command, if it says that: to a safe address, or
-/// nowhere. The error is that memory was refused.
+/// The target of the characters after a command, if it says one: a safe address, or none. The error
+/// is that memory was refused.
 pub(crate) fn lead_by<A: Allocator>(
     command: OperatingSystemCommand<A>,
 ) -> Result<Option<Option<Text<A>>>, AllocError>

@@ -30,7 +30,7 @@ pub fn page_parts_are_listed()
         → list_all is_safe_page_part ps ≡ true → All IsListed (tokens (html_text ps)) }
 {}
 
-/// Where the parts nest and all are closed, so do the tags that it reads.
+/// If the parts nest and all are closed, so do the tags that it reads.
 pub fn page_parts_close()
     ensures { (ps : List PagePart) → list_all is_kept_page_part ps ≡ true → nests [] ps ≡ true
         → closes [] (tokens (html_text ps)) ≡ true }

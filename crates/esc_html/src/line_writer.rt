@@ -23,7 +23,7 @@ use std::alloc::{AllocError, Allocator, Global};
 #[derive(Drop)]
 pub struct LineWriter<A: Allocator = Global> {
     text: String<A>,
-    // of the line that is open, or comes next
+    // the number of the line that is open, or comes next
     number: u64,
     is_open: bool,
 }

@@ -78,7 +78,7 @@ module _ {A : Type 0} where
     abbrev Again : List ℕ → List (Value A)
     Again x = passed_of_line u again f (x ++ 0x0a ∷ [])
 
-    -- of the content y of the line, and its line feed, these values pass
+    -- these values of the content y of the line, and of its line feed, pass
     pub record ReadsAgain (y : List ℕ) : Type 0 where
       pub values : List (Value A)
       pub passed : passed_of_content u again f y ≡ values

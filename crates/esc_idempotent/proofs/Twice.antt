@@ -184,7 +184,7 @@ module _ {A : Type 0} where
 
   -- ---- values that are written, each of which passes
 
-  -- of values that the predicate p passes
+  -- values that the predicate p passes
   pub record ArePassed (u : Guard) (p : Value A → Bool) (ws : List (Value A)) : Type 0 where
     pub pass : list_all p ws ≡ true
     pub single : list_all is_single ws ≡ true

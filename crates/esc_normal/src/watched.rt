@@ -7,7 +7,7 @@ use std::io;
 use std::io::{Read, Write};
 
 /// A reader or a writer around another, which remembers whether a call has failed. It passes each
-/// call on and returns what the inner call returned.
+/// call on and returns the result of the inner call.
 #[derive(Drop)]
 pub struct Watched<T> {
     inner: T,
@@ -48,7 +48,7 @@ impl<W: Write> Watched<W> {
     ghost use Rattle.esc_normal.specs.Io.{Writes, WritesPrefix, has_failed};
 
     /// Writes all of the bytes, in as many calls as the inner writer needs, and returns whether it
-    /// took them. Where it returns false the inner writer took a prefix of them, and has failed.
+    /// took them. If it returns false the inner writer took a prefix of them, and has failed.
     pub fn write_whole(&mut self, bytes: &[u8]) -> bool
         ensures whole { IsTrue result → Writes W.Write bytes.now self }
         ensures beginning { result ≡ false → WritesPrefix W.Write bytes.now self }

@@ -35,7 +35,7 @@ abbrev pub mark_pieces : Option ℕ → List Piece
 mark_pieces None = []
 mark_pieces (Some c) = character c ∷ []
 
--- of three marks or more two are known: the first stands for the others
+-- if there are three marks or more, two are known: the first stands for the others
 abbrev pub marks_pieces : Marks → List Piece
 marks_pieces m = mark_pieces m.first
     ++ (mark_pieces m.second ++ (if m.others then mark_pieces m.first else []))

@@ -18,7 +18,7 @@ use std::alloc::{AllocError, Allocator};
 /// characters with their looks, and its cursor in the same place, whatever it showed before.
 ///
 /// It begins with DECSTR, which ends modes, margins and character sets, and ED. Each row is written
-/// from its first cell that is not blank on, with CUP, SGR and EL. Where a wrap is pending after a
+/// from its first cell that is not blank on, with CUP, SGR and EL. If a wrap is pending after a
 /// character in the last column, the row of the cursor comes once more at the end. Modes, links,
 /// tab stops, the other screen and the title are not painted.
 ///

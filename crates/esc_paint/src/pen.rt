@@ -9,9 +9,9 @@ use esc_style::Look;
 pub struct Pen {
     /// Whether the cursor is at the place of the next cell.
     pub here: bool,
-    /// How characters look that come.
+    /// The look of the next characters.
     pub look: Look,
-    /// How the blank cells look that are all that is left of the row.
+    /// The look of the blank cells, if the rest of the row is blank.
     pub back: Look,
 }
 

@@ -28,7 +28,7 @@ Stops {S} {A} takes refuses p e q =
     → StopsGiven ((wants_memory e ≡ true) × Refused A) (At value_of takes)
     (At value_of refuses) p.sink (event_values limit m e) q.sink
 
--- of an event that wants memory
+-- the same for an event that wants memory
 memory_stopped : {S A : Type 0} (takes refuses : S → Action A → S → Type 0) (p q : S)
     (vs : List (Value A))
     → StopsGiven (Refused A) (At value_of takes) (At value_of refuses) p vs q

@@ -52,8 +52,8 @@ MayCallOn calls f a = calls.pre f (a, tt)
 abbrev pub CallsOn : {A F : Type 0} → Callback A F → F → Action A → F → Type 0
 CallsOn calls f a g = Called calls f (a, tt) tt g
 
--- The closure may be called always; or, of a parser that was fed a stream, on the actions that b
--- adds, in this order, and on no others; or, of a parser that has failed, never.
+-- The closure may be called: always; or, if the parser was fed a stream, on the actions that b
+-- adds, in this order, and on no others; or, if the parser has failed, never.
 abbrev pub MayCall : {A F : Type 0} → Callback A F → Parser A → F → List ℕ → Type 0
 MayCall calls p f b =
     OneOf (always_mut calls f) (MayParse (MayCallOn calls) (CallsOn calls) p f b)

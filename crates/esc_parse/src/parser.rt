@@ -108,8 +108,8 @@ impl<A: Allocator + Copy> Parser<A> {
     /// [`is_exception`](esc_actions::exceptions::is_exception), by the law
     /// [`yield_handed_out`](esc_actions::laws::yield_handed_out).
     ///
-    /// The sink has to be ready for any action; or, of a parser that was fed a stream, for these,
-    /// in this order; or, of a parser that has failed, for none.
+    /// The sink has to be ready for any action; or, if the parser was fed a stream, for these, in
+    /// this order; or, if the parser has failed, for none.
     ///
     /// `ParseError::Memory` says that a request of the parser for memory was refused, or that the
     /// sink returned an error: it was given a prefix of these actions, and the parser has failed.
@@ -193,8 +193,8 @@ impl Parser {
     ///
     /// This call is for the global allocator alone, since the language does not accept a bound
     /// `FnMut(Action<A>)` with a type parameter `A` yet: [`parse_into`](Parser::parse_into) is for
-    /// any. The closure has to be callable always; or, of a parser that was fed a stream, on these
-    /// actions, in this order, and no others; or, of a parser that has failed, never.
+    /// any. The closure has to be callable always; or, if the parser was fed a stream, on these
+    /// actions, in this order, and no others; or, if the parser has failed, never.
     ///
     /// `ParseError::Memory` says that a request for memory was refused, after a prefix of these
     /// actions; the parser has failed. It does not come while the stream so far holds only

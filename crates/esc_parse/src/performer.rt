@@ -30,7 +30,7 @@ use std::alloc::{AllocError, Allocator, Global};
 pub struct Performer<S, A: Allocator = Global> {
     /// The sink.
     pub sink: S,
-    /// Where memory comes from.
+    /// The allocator.
     pub alloc: A,
     /// The device control string that is unfinished.
     pub unfinished: Unfinished<A>,

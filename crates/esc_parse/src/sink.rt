@@ -152,10 +152,9 @@ pub trait Sink<T: ActionShape> {
     }
 
     /// Whether every control sequence with this final byte, whatever its parameters, would leave it
-    /// as it is. Where it returns true, as it does not by default, such a sequence is passed over:
-    /// no action is made of it, and it is not given to
-    /// [`receive_sequence`](Sink::receive_sequence). One with more parameters than are kept is
-    /// still given.
+    /// as it is. If it returns true, as it does not by default, such a sequence is passed over: no
+    /// action is made of it, and it is not given to [`receive_sequence`](Sink::receive_sequence).
+    /// One with more parameters than are kept is still given.
     #[inline]
     fn drops_sequences(&self, _control: u8) -> bool
         ensures { IsTrue result → (es : List CsiParam) → FoldsTo (By T.is_sequence takes)
@@ -164,7 +163,7 @@ pub trait Sink<T: ActionShape> {
         false
     }
 
-    /// Whether every image, of kitty's protocol or sixel, would leave it as it is. Where it returns
+    /// Whether every image, of kitty's protocol or sixel, would leave it as it is. If it returns
     /// true, as it does not by default, none is made and received.
     #[inline]
     fn drops_images(&self) -> bool

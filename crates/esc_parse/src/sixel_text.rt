@@ -44,7 +44,7 @@ impl<A: Allocator + Copy> SixelText<A> {
         self.data.push(byte)
     }
 
-    /// More bytes of the data, as `push` of each takes them.
+    /// More bytes of the data, with the effect of a `push` of each.
     #[tactic(auto, using(crate::proofs::Sixels::appended))]
     pub fn push_run(&mut self, bytes: &[u8]) -> Result<(), AllocError>
         ensures ok { OnOk result (FoldsTo Pushes self.old bytes.now self.new) }

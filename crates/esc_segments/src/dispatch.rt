@@ -103,7 +103,7 @@ fn dispatch_csi<V: VTActor>(x: &[u8], last: u8, actor: &mut V) -> Result<()>
     emit_body(&mut body, last, actor)
 }
 
-// The same, of a body that was read.
+// The same for a body that was read.
 fn emit_body<V: VTActor>(body: &mut CsiBody, last: u8, actor: &mut V) -> Result<()>
     requires { V.is_ready actor.old }
     ensures emitted { (x : List ℕ) → KeepsBody body.old x

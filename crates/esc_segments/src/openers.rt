@@ -9,7 +9,7 @@ ghost use Rattle.esc_frame.specs.declared.classes.Kind.TheVariants as kind;
 
 use crate::runs::noise_run;
 
-// How many bytes the opener takes that the bytes begin with.
+// The length of the opener that the bytes begin with.
 fn opener_len(bytes: &[u8]) -> usize
     ensures len { (k : Kind) (o : Opener) (body : List ℕ) → IsOpener o
         → bytes.now ≡ opener k o ++ body → result ≡ length (opener k o) }

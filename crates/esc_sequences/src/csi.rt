@@ -223,8 +223,7 @@ fn is_separator(param: &CsiParam) -> bool
     *param == CsiParam::P(b';')
 }
 
-/// Writes the control sequence as a terminal reads it. Where it returns `Ok`, all of it was
-/// written.
+/// Writes the control sequence as a terminal reads it. If it returns `Ok`, all of it was written.
 impl<A: Allocator> fmt::Display for CSI<A> {
     ghost output = { λ c. Some (csi_text (csi_value c)) };
 

@@ -82,8 +82,8 @@ fn underline_of(kind: CsiParam) -> Option<Sgr>
     }
 }
 
-/// Writes the control sequence that selects it: `ESC [`, its number, and `m`. Where it returns
-/// `Ok`, all of it was written.
+/// Writes the control sequence that selects it: `ESC [`, its number, and `m`. If it returns `Ok`,
+/// all of it was written.
 impl fmt::Display for Sgr {
     ghost output = { λ s. Some (sgr_text s) };
 

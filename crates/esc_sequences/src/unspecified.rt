@@ -23,8 +23,7 @@ pub struct Unspecified<A: Allocator = Global> {
 }
 
 /// Writes `ESC [`, each parameter as its decimal number or its character, and the final byte. A
-/// byte is written as the character of the same number. Where it returns `Ok`, all of it was
-/// written.
+/// byte is written as the character of the same number. If it returns `Ok`, all of it was written.
 impl<A: Allocator> fmt::Display for Unspecified<A> {
     ghost output = { λ u. Some (csi_text (unspecified u.params u.parameters_truncated u.control)) };
 

@@ -1,4 +1,4 @@
--- Where a byte takes memory.
+-- The bytes that take memory.
 use Rattle.std.proofs.Common.{Result, Ok, Err, OnErr, ◌≡◌, ℕ, true, Option, Some, None, refl}
 use Rattle.esc_sixel.specs.Classes.{class_of}
 use Rattle.esc_sixel.specs.Steps.{Open, Closed, In, WantsForData, wants_memory}

@@ -53,7 +53,7 @@ fn append_content<B: Allocator>(content: &[SixelData], text: &mut Text<B>) -> Re
 }
 
 // Gathers the text of the data that comes first, up to a value over 63, as far as there is room for
-// it. Returns how much data that is, and how many bytes.
+// it. Returns the number of slices of this data, and of bytes.
 pub(crate) fn gather(content: &[SixelData], bytes: &mut [u8; ROOM]) -> (usize, usize)
     requires { IsAscii bytes.old }
     ensures within { (result.0 ≤ length content.now) × (result.1 ≤ 128) }

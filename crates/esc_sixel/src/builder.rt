@@ -47,7 +47,8 @@ pub struct SixelBuilder<A: Allocator = Global> {
     parameters: Parameters,
 }
 
-// For how many slices of data memory is taken before they come. Many bytes can give few of them.
+// The number of slices of data for which memory is taken before they come. Many bytes can give few
+// of them.
 const MOST_ROOM: usize = 4096;
 
 // The pan that the first parameter of a header means.
@@ -86,7 +87,7 @@ impl<A: Allocator> SixelBuilder<A> {
     /// A builder of an image with these parameters of its header, before any data. Takes no memory.
     ///
     /// The first means pan: 7, 8 and 9 mean 1; 0, 1, 5 and 6 mean 2; 3 and 4 mean 3; 2 means 5; any
-    /// other, or none, 2. Where the second is 1 the background is transparent. The third is the
+    /// other, or none, 2. If the second is 1 the background is transparent. The third is the
     /// horizontal grid size.
     #[tactic(auto, unfolding(crate::specs::Steps::HasConsumed))]
     pub fn new(alloc: A, params: &[i64]) -> SixelBuilder<A>

@@ -4,7 +4,7 @@ ghost use Rattle.std.specs.List.{All};
 ghost use Rattle.esc_sixel.specs.Classes.{IsDigit, IsPixels};
 ghost use Rattle.esc_sixel.specs.Lines.{NumberBefore, number_after};
 
-// The number of the digits that come first, up to four, and how many these are. It takes none of
+// The number of the digits that come first, up to four, and their count. It takes none if there are
 // fewer than four bytes.
 #[inline(always)]
 pub(crate) fn few_digits(rest: &[u8]) -> (u32, usize)

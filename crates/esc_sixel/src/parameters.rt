@@ -61,8 +61,8 @@ impl Parameters {
         }
     }
 
-    // The longest prefix of digits of these bytes, as `digit` of each takes them; returns how many.
-    // It takes none past the fifth parameter.
+    // The longest prefix of digits of these bytes, with the effect of a `digit` of each; returns
+    // how many. It takes none past the fifth parameter.
     #[inline(always)]
     pub(crate) fn digits(&mut self, rest: &[u8]) -> usize
         ensures few { result ≤ length rest.now }

@@ -136,7 +136,7 @@ seen_foreground l = if l.concealed then color.Default else shown_foreground l
 abbrev pub shown_background : Look → Color
 shown_background l = if l.inverse then l.foreground else l.background
 
--- its classes, of those that are there
+-- its classes, each if it is there
 abbrev pub look_classes : Look → List (Option Class)
 look_classes l = class_if l.bold class.Bold
     ∷ class_if l.faint class.Faint
@@ -152,7 +152,7 @@ look_classes l = class_if l.bold class.Bold
     ∷ underline_color_class l.underline_color
     ∷ []
 
--- its styles, of those that are there
+-- its styles, each if it is there
 abbrev pub look_styles : Look → List (Option Style)
 look_styles l = foreground_style (seen_foreground l)
     ∷ background_style (shown_background l)

@@ -174,7 +174,7 @@ impl Look {
         }
     }
 
-    // Its classes, of those that are there.
+    // Its classes, each if it is there.
     pub fn classes(&self) -> [Option<Class>; 12]
         ensures { result ≡ look_classes self.now }
     {
@@ -194,7 +194,7 @@ impl Look {
         ]
     }
 
-    // Its styles, of those that are there.
+    // Its styles, each if it is there.
     pub fn styles(&self) -> [Option<Style>; 3]
         ensures { result ≡ look_styles self.now }
     {

@@ -121,7 +121,7 @@ pub all_written : {X A : Type 0} (f : X → Value A) (follows : Bool) (text all 
 all_written f follows text all [] none h = sym (append-nil text) ∙ h
 all_written f follows text all (x ∷ xs) none h = absurd (omega arith)
 
--- of two tests that both succeed, each does
+-- if two tests both succeed, each does
 both_first : (a b : Bool) → (a && b) ≡ true → a ≡ true
 both_first true b h = refl
 both_first false b h = h

@@ -1,4 +1,4 @@
--- Where reading a segment may want memory.
+-- Segments whose reading may want memory.
 use Rattle.std.specs.Prelude.{◌≡◌, ◌≢◌, ◌⊎◌, Bool, true, []}
 use Rattle.esc_actions.specs.Readings.{reading}
 use Rattle.esc_frame.specs.Memory.{may_take}

@@ -13,8 +13,8 @@ use std::alloc::{Allocator, Global};
 /// add to the meaning of the bytes fed before, and hands the sink back. The actions are those that
 /// [`Parser::parse_into`] would give, with no copy of text, parameters and commands.
 ///
-/// The sink has to be ready for any borrowed action; or, of a parser that was fed a stream, for
-/// these, in order; or, of a parser that has failed, for none.
+/// The sink has to be ready for any borrowed action; or, if the parser was fed a stream, for these,
+/// in order; or, if the parser has failed, for none.
 ///
 /// `ParseError::Memory` says that a request for memory was refused, the parser's or the sink's: the
 /// sink was given borrowed actions that together are a prefix of these actions, and the parser has
@@ -40,9 +40,9 @@ pub fn parse_borrowed_into<A: Allocator + Copy, S: BorrowingSink<Action<A>>>(
 /// [`Parser::parse`] would call it, with no copy of text, parameters and commands.
 ///
 /// As [`Parser::parse`] it is for the global allocator alone, and [`parse_borrowed_into`] is for
-/// any. The closure has to be callable always; or, of a parser that was fed a stream, on borrowed
-/// actions that together are these, in order, and no others; or, of a parser that has failed,
-/// never. So it is called in no other way.
+/// any. The closure has to be callable always; or, if the parser was fed a stream, on borrowed
+/// actions that together are these, in order, and no others; or, if the parser has failed, never.
+/// So it is called in no other way.
 ///
 /// `ParseError::Memory` says that a request for memory was refused, after borrowed actions that
 /// together are a prefix of these; the parser has failed. It comes as from [`Parser::parse`].

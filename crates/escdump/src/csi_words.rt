@@ -191,7 +191,7 @@ fn add_function(function: ControlFunction, params: &[CsiParam], to: &mut Phrase)
     }
 }
 
-// Adds a number, of some functions flags of kitty's keyboard.
+// Adds a number, or for some functions flags of kitty's keyboard.
 fn add_number(function: ControlFunction, params: &[CsiParam], to: &mut Phrase) {
     if function == ControlFunction::KITTYPUSH || function == ControlFunction::KITTYQUERY {
         add_flags(function, params, to)

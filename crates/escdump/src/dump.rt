@@ -101,9 +101,9 @@ impl<'n> Dump<'n> {
         &mut self.page
     }
 
-    /// Adds the lines of a chunk: of each segment that is finished by it, and of each run of text
-    /// in it, but of one at its end not while more is there, and the run has fewer bytes than the
-    /// limit.
+    /// Adds the lines of a chunk: the line of each segment that it finishes, and of each run of
+    /// text in it; but not of a run at its end while more is there, and the run has fewer bytes
+    /// than the limit.
     pub fn take(&mut self, chunk: &[u8], has_more: bool) {
         let mut bytes = mem::replace(&mut self.begun, Vec::new(self.alloc));
         self.page.note(bytes.extend_from_slice(chunk).is_err());
@@ -238,7 +238,7 @@ impl<'n> Dump<'n> {
         self.end_line(true);
     }
 
-    // Takes the bytes of a segment after those that are known, of an unfinished one but for those
+    // Takes the bytes of a segment after those that are known; if it is unfinished, all but those
     // that are held back.
     fn take_segment(&mut self, segment: Segment<'_>, known: usize) {
         let fresh = &segment.bytes[known.min(segment.bytes.len())..];
@@ -261,8 +261,8 @@ impl<'n> Dump<'n> {
         self.keep(held);
     }
 
-    // How many bytes of an unfinished segment are held back: also an ESC that may begin the string
-    // terminator which a string waits for.
+    // The number of bytes of an unfinished segment that are held back: also an ESC that may begin
+    // the string terminator which a string waits for.
     fn held_of(&self, segment: Segment<'_>) -> usize {
         if self.is_closing && segment.bytes == b"\x1b".as_slice() {
             1
@@ -447,7 +447,7 @@ impl<'n> Dump<'n> {
     }
 }
 
-// How many bytes the words of a line may have: in objects any.
+// The number of bytes that the words of a line may have: any in objects.
 fn room_of(options: Options<'_>) -> usize {
     match options.form {
         Form::Json => usize::MAX,

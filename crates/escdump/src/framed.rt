@@ -27,8 +27,8 @@ pub fn is_left_open(kind: SegmentKind) -> bool {
     is_framed(kind) && kind != SegmentKind::Escape && kind != SegmentKind::Csi
 }
 
-/// Whether an item that came whole is a control sequence, or may have controls inside it: of a
-/// string they come before its text.
+/// Whether an item that came whole is a control sequence, or may have controls inside it: the
+/// controls of a string come before its text.
 pub fn may_hold_controls(kind: SegmentKind, item: &Item) -> bool {
     match kind {
         SegmentKind::Csi => true,

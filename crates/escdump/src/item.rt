@@ -150,7 +150,7 @@ impl Item {
         }
     }
 
-    /// The letter that opens it, as `]`, and those that come after it; of an escape sequence its
+    /// The letter that opens it, as `]`, and those that come after it; for an escape sequence its
     /// intermediates and its final byte.
     pub fn letters(&self) -> (u8, &[u8]) {
         (self.letter, self.body())

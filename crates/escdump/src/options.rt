@@ -181,8 +181,8 @@ const KNOWN: &[Known] = &[
 ];
 
 impl<'a> Task<'a> {
-    /// The task that these words, the program's arguments, name; of an option that is given twice,
-    /// and of the forms, the last counts.
+    /// The task that these words, the program's arguments, name. If an option is given twice, the
+    /// last counts, and so does the last of the forms.
     pub fn of(alloc: Global, words: &'a [String]) -> Result<Task<'a>, Wrong<'a>> {
         match read(alloc, KNOWN, words) {
             Ok(found) => Task::from_found(found),

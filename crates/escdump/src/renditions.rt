@@ -102,8 +102,8 @@ fn words_at(number: i64) -> &'static str {
     "not known"
 }
 
-/// Adds the renditions of the parameters of a control sequence, in words. Where one is not known,
-/// its parameters come after `not known`.
+/// Adds the renditions of the parameters of a control sequence, in words. If one is not known, its
+/// parameters come after `not known`.
 pub fn add_renditions(params: &[CsiParam], to: &mut Phrase) {
     let mut is_first = true;
     for selection in Renditions::new(params) {

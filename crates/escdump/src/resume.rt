@@ -22,7 +22,7 @@ pub fn resumed(segment: Segment<'_>) -> &'static [u8] {
     }
 }
 
-// The opener of a sequence that is cut short: of a control sequence, a device control string, or an
+// The opener of a sequence that is cut short: a control sequence, a device control string, or an
 // escape sequence without or with intermediates.
 fn opening(bytes: &[u8]) -> &'static [u8] {
     match bytes {
@@ -42,9 +42,9 @@ fn opening(bytes: &[u8]) -> &'static [u8] {
     }
 }
 
-/// How many bytes at the end of this unfinished segment may turn out to belong to the next: of a
-/// character that is begun in the text of an operating system command, since C2 may be half of a
-/// control, and of one that is begun in text.
+/// The number of bytes at the end of this unfinished segment that may turn out to belong to the
+/// next: those of a character that is begun in the text of an operating system command, since C2
+/// may be half of a control, and of one that is begun in text.
 pub fn held_back(segment: Segment<'_>) -> usize {
     match segment.kind {
         SegmentKind::Osc => begun_character(segment.bytes),

@@ -63,7 +63,7 @@ pub enum Address {
 }
 
 /// Whether a cursor position comes first: after `ESC Y` the line and the column, each as a
-/// character past U+0020. Where nothing comes after the bytes, none is begun.
+/// character past U+0020. If nothing comes after the bytes, none is begun.
 pub fn address_in(bytes: &[u8], is_last: bool) -> Address {
     match bytes {
         [0x1b, b'Y', 0x20..=0x7e, 0x20..=0x7e, ..] => Address::Whole,

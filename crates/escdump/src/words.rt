@@ -54,7 +54,7 @@ impl Words {
         }
     }
 
-    /// None, of the next segment.
+    /// No words, for the next segment.
     pub fn clear(&mut self) {
         self.phrase.restart(self.room);
         self.is_ending = false;

@@ -16,7 +16,7 @@ next_held k b = if b == get_or pair k 0 then (if nat_le 8 k then 0 else suc k)
     else if b == 0x1b then 1
     else 0
 
--- how many of them are written then, and whether the byte is
+-- the number of them that are written then, and whether the byte is
 abbrev pub let_go : ℕ → ℕ → ℕ
 let_go k b = if b == get_or pair k 0 then 0
     else if (k == 7) && (b == 0x32) then 5

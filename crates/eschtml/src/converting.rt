@@ -276,7 +276,7 @@ impl<'a, W: Write, E: Write> Converting<'a, W, E> {
         }
     }
 
-    // How it ends after this text.
+    // The end of the stream after this text.
     fn push(&mut self, ended: Ended, text: Result<String, AllocError>) -> Ended {
         let Ok(text) = text else {
             tell(
@@ -293,7 +293,7 @@ impl<'a, W: Write, E: Write> Converting<'a, W, E> {
         }
     }
 
-    // How it ends once that is flushed.
+    // The end of the stream once that is flushed.
     fn flush(&mut self, ended: Ended) -> Ended {
         if is_last(ended) {
             return ended;
@@ -304,7 +304,7 @@ impl<'a, W: Write, E: Write> Converting<'a, W, E> {
         }
     }
 
-    // How it ends that some lines were written, and how many after them are left out.
+    // The end of the stream after some lines were written; says how many after them are left out.
     fn end_window<R: Read>(
         &mut self,
         name: &str,
@@ -425,13 +425,13 @@ impl<'a, W: Write, E: Write> Converting<'a, W, E> {
         let _ = self.faults.flush();
     }
 
-    // How it ends that the output takes nothing more.
+    // The end of a stream if the output takes nothing more.
     fn unwritten(&mut self, error: io::Error) -> Ended {
         let reason = Reason::of(&error);
         unwritten(PROGRAM, self.output_name, reason, &mut self.faults)
     }
 
-    // How it ends that the last of a stream that ended so could not be written.
+    // The end of a stream that ended so, if its last part could not be written.
     fn unflushed(&mut self, ended: Ended, error: io::Error) -> Ended {
         if is_last(ended) {
             ended
@@ -440,7 +440,7 @@ impl<'a, W: Write, E: Write> Converting<'a, W, E> {
         }
     }
 
-    // How it ends that no more can be read of the stream of this name.
+    // The end of the stream of this name, if no more can be read.
     fn unread(&mut self, name: &str, error: io::Error) -> Ended {
         unread(PROGRAM, name, Reason::of(&error), &mut self.faults)
     }

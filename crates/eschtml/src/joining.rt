@@ -109,7 +109,7 @@ fn push_joined<A: Allocator>(
     Ok(last)
 }
 
-// The same of some of these bytes, one at least, and how many.
+// The same for some of these bytes, at least one, and how many.
 fn push_some<A: Allocator>(
     text: &mut Vec<u8, A>,
     held: usize,
@@ -202,8 +202,8 @@ fn push_if<A: Allocator>(text: &mut Vec<u8, A>, goes: bool, byte: u8) -> Result<
     }
 }
 
-// How many bytes are held back after this one; how many of those that were go on, and whether it
-// does.
+// The number of bytes that are held back after this one; the number of those held back before that
+// go on, and whether it does.
 fn step(held: usize, byte: u8) -> (usize, usize, bool)
     ensures held { result.0 ≡ next_held held byte }
     ensures goes { (result.1 ≡ let_go held byte) × (result.2 ≡ goes_on held byte) }

@@ -6,7 +6,8 @@ use memchr::memchr;
 use std::io;
 use std::io::Write;
 
-/// How many lines were written, of HTML that consists of tags, characters and character references.
+/// The number of lines that were written, in HTML that consists of tags, characters and character
+/// references.
 #[derive(Clone, Copy)]
 pub struct Lines {
     // those that a line feed ended

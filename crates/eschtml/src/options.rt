@@ -58,7 +58,7 @@ pub struct Options<'a> {
 }
 
 impl<'a> Options<'a> {
-    // Where no option is given.
+    // The options if none is given.
     fn new() -> Options<'a> {
         Options {
             is_page: false,
@@ -320,8 +320,8 @@ const KNOWN: &[Known] = &[
 ];
 
 impl<'a> Task<'a> {
-    /// The task that these words, the program's arguments, name; of an option that is given twice
-    /// the last counts.
+    /// The task that these words, the program's arguments, name. If an option is given twice, the
+    /// last counts.
     pub fn of(alloc: Global, words: &'a [String]) -> Result<Task<'a>, Wrong<'a>> {
         let found = match read(alloc, KNOWN, words) {
             Ok(found) => found,
@@ -370,7 +370,7 @@ struct Choices<'a> {
 }
 
 impl<'a> Choices<'a> {
-    // Where there is no option.
+    // The choices if there is no option.
     fn new() -> Choices<'a> {
         Choices {
             kind: Kind::Convert,

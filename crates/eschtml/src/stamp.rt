@@ -1,13 +1,13 @@
 //! Times that lines begin with.
 
-// How many digits a number of seconds has at least that is a time by itself.
+// The least number of digits of a number of seconds that is a time by itself.
 const EPOCH: usize = 10;
 
 const MONTHS: &[&str] = &[
     "Jan", "Feb", "Mar", "Apr", "May", "Jun", "Jul", "Aug", "Sep", "Oct", "Nov", "Dec",
 ];
 
-// How many digits a number of a time has at most.
+// The most digits of a number in a time.
 const MOST_DIGITS: usize = 12;
 
 /// Whether a text begins with a time.

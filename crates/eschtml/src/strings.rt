@@ -100,7 +100,7 @@ impl Strings {
         bytes.len()
     }
 
-    // Where the first byte is that may open a string.
+    // The place of the first byte that may open a string.
     fn candidate(&self, bytes: &[u8]) -> Option<usize> {
         match self.encoding {
             Encoding::Utf8 => first_of_two(bytes),
@@ -111,8 +111,8 @@ impl Strings {
         }
     }
 
-    // Follows the segment that is unfinished to its end, as far as it is there; how many bytes that
-    // are. Where memory is refused, nothing more is followed.
+    // Follows the segment that is unfinished to its end, as far as it is there; returns the number
+    // of these bytes. If memory is refused, nothing more is followed.
     fn follow(&mut self, bytes: &[u8]) -> usize {
         let mut n = 0usize;
         for byte in bytes {
@@ -163,8 +163,8 @@ impl Strings {
     }
 }
 
-// Where the first byte is that is ESC or begins a C1 control in UTF-8. The first few are looked at
-// one by one, since in a log with colours few come before a sequence.
+// The place of the first byte that is ESC or begins a C1 control in UTF-8. The first few are looked
+// at one by one, since in a log with colours few come before a sequence.
 fn first_of_two(bytes: &[u8]) -> Option<usize> {
     let near = bytes.get(..NEAR).unwrap_or(bytes);
     for (at, byte) in near.iter().enumerate() {
@@ -179,7 +179,7 @@ fn first_of_two(bytes: &[u8]) -> Option<usize> {
     }
 }
 
-// Where the first byte is that is ESC or no ASCII.
+// The place of the first byte that is ESC or no ASCII.
 fn first_of_any(bytes: &[u8]) -> Option<usize> {
     for (at, byte) in bytes.iter().enumerate() {
         if *byte == ESC || 0x80 <= *byte {

@@ -18,7 +18,7 @@ const INLINE: &[u8] = b"<span style=\"color:#6e7781;-webkit-user-select:none;use
 
 const END: &[u8] = b"</span>";
 
-// Where HTML goes on, which consists of tags, characters and character references.
+// The place in HTML, which consists of tags, characters and character references.
 #[derive(Clone, Copy)]
 enum Place {
     // at the beginning of a line, in a tag or not
@@ -28,8 +28,8 @@ enum Place {
     Line,
 }
 
-/// A writer around another, of HTML, which puts the time that a line begins with into an element,
-/// so that it is not copied with the line. Where it is told to, and else nothing is changed.
+/// A writer of HTML around another, which puts the time that a line begins with into an element, so
+/// that it is not copied with the line. It changes nothing unless it is told to.
 ///
 /// It keeps the first bytes of a line that may be a time, at most 48.
 #[derive(Drop)]

@@ -206,8 +206,8 @@ impl Options {
 }
 
 impl<'a> Task<'a> {
-    /// The task that these words, the program's arguments, name; of an option that is given twice,
-    /// and of the forms, the last counts.
+    /// The task that these words, the program's arguments, name. If an option is given twice, the
+    /// last counts, and so does the last of the forms.
     pub fn of(alloc: Global, words: &'a [String]) -> Result<Task<'a>, Wrong<'a>> {
         match read(alloc, KNOWN, words) {
             Ok(found) => Task::from_found(found),
@@ -292,7 +292,7 @@ fn time_named(word: &str) -> Result<f64, Wrong<'_>> {
     }
 }
 
-// How long a stretch is that a word names, in seconds: a thousandth at least.
+// The length of the stretch that a word names, in seconds: a thousandth at least.
 fn stretch_named(word: &str) -> Result<f64, Wrong<'_>> {
     match word.parse::<f64>() {
         Ok(seconds) if seconds >= 0.001 => Ok(seconds),

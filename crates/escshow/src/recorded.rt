@@ -29,7 +29,7 @@ pub struct Recorded {
 // The time of a recording.
 #[derive(Clone, Copy)]
 struct Clock {
-    // of the last event, in seconds
+    // the time of the last event, in seconds
     now: f64,
     // whether the time of an event is counted from the event before
     is_relative: bool,

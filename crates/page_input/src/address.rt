@@ -8,10 +8,10 @@ use memchr::memchr;
 // How many bytes of an address a link may have: as many as VTE and iTerm2 take.
 const LONGEST: usize = 2083;
 
-/// Where an address is in a text.
+/// The place of an address in a text.
 #[derive(Clone, Copy)]
 pub(crate) struct Place {
-    /// Where it begins.
+    /// The place of its first byte.
     pub begin: usize,
     /// How many bytes it has.
     pub length: usize,

@@ -62,7 +62,7 @@ impl Carried {
         Ok(text)
     }
 
-    // Follows a segment to its end, as far as it is there; how many bytes that are.
+    // Follows a segment to its end, as far as it is there; returns the number of these bytes.
     fn follow(&mut self, bytes: &[u8]) -> usize {
         let mut n = 0usize;
         for byte in bytes {

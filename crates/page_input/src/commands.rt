@@ -71,8 +71,8 @@ pub(crate) fn header_length(text: &[u8]) -> usize {
     length
 }
 
-/// Whether a command of kitty shows an image, or is a part of one that does: of this much of it the
-/// keys are before the first `;`.
+/// Whether a command of kitty shows an image, or is a part of one that does: the keys before the
+/// first `;` are in this much of it.
 pub(crate) fn shows_image(text: &[u8], is_part: bool) -> bool {
     is_part || has_key(text.get(1..).unwrap_or(b""), b';', b',', b"a=T")
 }

@@ -53,8 +53,8 @@ pub(crate) fn may_begin_file(text: &[u8]) -> bool {
     }
 }
 
-/// Whether a command of iTerm2 shows a file, and is none to save, or is a part of one that does: of
-/// this much of it the keys are before the first `:`.
+/// Whether a command of iTerm2 shows a file, and is none to save, or is a part of one that does:
+/// the keys before the first `:` are in this much of it.
 pub(crate) fn shows_file(text: &[u8], is_part: bool) -> bool {
     let text = after(text, PROPRIETARY).unwrap_or(b"");
     match (after(text, FILE), after(text, BEGIN)) {

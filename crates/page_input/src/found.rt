@@ -1,4 +1,4 @@
-//! Where images are in a stream.
+//! The places of images in a stream.
 
 use crate::commands::{header_length, shows_image};
 use crate::files::{begins_file, may_begin_file, shows_file};
@@ -165,8 +165,8 @@ fn end_length(bytes: &[u8], kind: Kind, encoding: Encoding) -> usize {
     }
 }
 
-// The first place, from this one on, of a byte that is no part of a command of this kind: of a
-// control or a byte past ASCII; sixels may have controls that break nothing off.
+// The first place, from this one on, of a byte that is no part of a command of this kind: a control
+// or a byte past ASCII; sixels may have controls that break nothing off.
 fn end_of(bytes: &[u8], kind: Kind, from: usize) -> usize {
     let from = from.min(bytes.len());
     let mut at = from;

@@ -69,7 +69,7 @@ fn character(first: u8, rest: &[u8]) -> Lead {
     }
 }
 
-// Where the first byte is that may begin a sequence or a string.
+// The place of the first byte that may begin a sequence or a string.
 fn first_candidate(bytes: &[u8], encoding: Encoding) -> Option<usize> {
     match encoding {
         Encoding::Utf8 => memchr2(ESC, LEAD, bytes),
@@ -80,7 +80,7 @@ fn first_candidate(bytes: &[u8], encoding: Encoding) -> Option<usize> {
     }
 }
 
-// Where the first byte is that is ESC or no ASCII.
+// The place of the first byte that is ESC or no ASCII.
 fn first_of_any(bytes: &[u8]) -> Option<usize> {
     for (at, byte) in bytes.iter().enumerate() {
         if *byte == ESC || 0x80 <= *byte {

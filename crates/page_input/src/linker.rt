@@ -65,7 +65,7 @@ impl Linker {
         Ok(())
     }
 
-    // Takes some of these bytes; how many that are.
+    // Takes some of these bytes; returns how many.
     fn take_some(&mut self, bytes: &[u8]) -> Result<usize, AllocError>
         ensures { IfOk result (λ n. (n ≤ length bytes.now)
             × (weight self.new ≤ weight self.old + 4 * n)) }
@@ -87,7 +87,7 @@ impl Linker {
         }
     }
 
-    // Takes a segment up to its end, as far as it is there; how many bytes that are.
+    // Takes a segment up to its end, as far as it is there; returns the number of these bytes.
     fn follow(&mut self, bytes: &[u8]) -> Result<usize, AllocError>
         ensures { IfOk result (λ n. (n ≤ length bytes.now)
             × (weight self.new ≤ weight self.old + 4 * n)) }
@@ -158,7 +158,7 @@ fn push_first(made: &mut Vec<u8>, place: Place, text: &[u8]) -> Result<(), Alloc
     push_link(made, &rest[..place.length])
 }
 
-// Appends a link to an address, of this address.
+// Appends a link to an address, with the address as its text.
 fn push_link(made: &mut Vec<u8>, address: &[u8]) -> Result<(), AllocError>
     ensures { OnOk result
         (length made.new.items ≡ length made.old.items + (2 * length address.now + 14)) }
@@ -170,8 +170,8 @@ fn push_link(made: &mut Vec<u8>, address: &[u8]) -> Result<(), AllocError>
     fallible_alloc::extend(made, b"\x1b]8;;\x1b\\")
 }
 
-// Where the bytes begin at the end of a text that may be in an address, from the first letter on
-// that its scheme may begin with.
+// The beginning of the bytes at the end of a text that may be in an address, from the first letter
+// on that its scheme may begin with.
 fn word_start(text: &[u8]) -> usize
     ensures { result ≤ length text.now }
 {
@@ -199,7 +199,7 @@ struct Segments {
 }
 
 impl Segments {
-    // Follows a segment up to its end; how many bytes that are.
+    // Follows a segment up to its end; returns the number of these bytes.
     fn follow(&mut self, bytes: &[u8]) -> Result<usize, AllocError> {
         let mut n = 0usize;
         for byte in bytes {

@@ -14,10 +14,11 @@ use std::{io, mem};
 // How many bytes are read at once.
 const BYTES: usize = 8192;
 
-// How many bytes are kept at least before those are let go that are no part of the last lines.
+// The least number of bytes that are kept before those are let go that are no part of the last
+// lines.
 const ROOM: usize = 65_536;
 
-/// Which lines of a stream are written: of the first ones the last ones.
+/// The lines of a stream that are written: the last of the first ones.
 #[derive(Clone, Copy)]
 pub struct Cut {
     /// The number of lines that come first, if not all do.
@@ -67,7 +68,7 @@ impl Count {
     }
 }
 
-/// A reader around another, which reads some of its lines. Where these are the last ones, they are
+/// A reader around another, which reads some of its lines. If these are the last ones, they are
 /// kept, and begin with the renditions that the lines before them leave on.
 #[derive(Drop)]
 pub struct Window<R> {
@@ -81,7 +82,7 @@ pub struct Window<R> {
     before: Count,
     after: Count,
     carried: Carried,
-    // the last lines so far, and how many bytes there may be before some are let go
+    // the last lines so far, and the number of bytes that there may be before some are let go
     kept: Vec<u8>,
     most: usize,
     // how many bytes of them were handed out
@@ -131,7 +132,7 @@ impl<R: Read> Window<R> {
         self.before.lines()
     }
 
-    /// Reads the rest; how many lines were left out after those that were read.
+    /// Reads the rest; returns the number of lines that were left out after those that were read.
     pub fn after(&mut self) -> io::Result<u64> {
         if self.left.is_none() {
             return Ok(0);
@@ -290,7 +291,7 @@ fn is_open_after(is_open: bool, bytes: &[u8]) -> bool
     }
 }
 
-// How many bytes the lines have that come first, so many.
+// The number of bytes of the first lines, so many.
 fn length_of_first(bytes: &[u8], lines: u64) -> usize
     ensures within { result ≤ length bytes.now }
     ensures first { take result bytes.now ≡ first_lines lines bytes.now }

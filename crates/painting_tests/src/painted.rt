@@ -45,7 +45,7 @@ fn same_content(a: Content, b: Content) -> bool {
     }
 }
 
-// How a cell is seen: of a blank one the background is.
+// The look of a cell as it is seen: a blank one shows its background.
 fn seen(styles: &Styles, cell: &Cell) -> Look {
     let look = styles.look_at(cell.look);
     match cell.content {

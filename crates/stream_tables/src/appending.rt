@@ -27,7 +27,7 @@ static ROWS: [(&str, &str, &str); 6] = [
     ),
 ];
 
-// How many requests are refused, one in each run. None of the rows asks for more.
+// The number of requests that are refused, one in each run. None of the rows asks for more.
 const REQUESTS: u64 = 12;
 
 // Appends a letter or BEL, and returns whether memory was there for it.

@@ -11,7 +11,7 @@ use failing_alloc::Refusing;
 use std::alloc::{AllocError, Allocator, Global};
 use std::fmt::Write;
 
-// How many requests are refused, one in each run. No row of a table asks for more.
+// The number of requests that are refused, one in each run. No row of a table asks for more.
 const REQUESTS: u64 = 24;
 
 // Whether these are the Debug texts of the borrowed actions of a stream.

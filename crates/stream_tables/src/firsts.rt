@@ -20,7 +20,8 @@ pub fn finds_firsts(alloc: Global, stream: &[u8]) -> bool {
     is_right && rest.is_empty()
 }
 
-// How many bytes are before the one that gives the first item; without one more than there are.
+// The number of bytes before the one that gives the first item; if there is none, one more than
+// there are.
 fn quiet_len<T>(first: &Result<Option<(T, usize)>, ParseError>) -> usize {
     match first {
         Ok(Some((_, taken))) => taken.saturating_sub(1),

@@ -46,7 +46,7 @@ impl Report {
         }
     }
 
-    /// The number that a text of a row is. Where it is none, that is noted.
+    /// The number that a text of a row is. If it is none, that is noted.
     pub fn number_of(&mut self, row: &str, text: &str) -> usize {
         match number(text) {
             Ok(number) => number,
@@ -57,9 +57,9 @@ impl Report {
         }
     }
 
-    /// Notes a difference, if the result of the library is not the wanted text. Of a long text the
-    /// beginning is shown. It takes the result, since a caller that has it to drop is dearer to
-    /// prove.
+    /// Notes a difference, if the result of the library is not the wanted text. It shows the
+    /// beginning of a long text. It takes the result, since a caller that has it to drop is dearer
+    /// to prove.
     pub fn expect(&mut self, row: &str, what: &str, wanted: &str, got: Result<String, AllocError>) {
         match got {
             Ok(got) => self.compare(row, what, wanted, got.as_str()),

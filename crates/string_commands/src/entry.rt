@@ -9,8 +9,8 @@ pub struct Entry {
     /// The kind that tells it apart.
     pub kind: StringKind,
     /// The number of an operating system command, or its letter; the first byte of an application
-    /// program command; of a device control string its private prefix, its intermediates and its
-    /// final byte, as digits to the base 256 after a 1.
+    /// program command; or for a device control string its private prefix, its intermediates and
+    /// its final byte, as digits to the base 256 after a 1.
     pub key: u32,
     /// The rest of its beginning.
     pub begin: Begin,

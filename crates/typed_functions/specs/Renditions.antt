@@ -144,7 +144,7 @@ color_entries t s (color.PaletteIndex n) = number t ∷ P s ∷ number 5 ∷ P s
 color_entries t s (color.TrueColor c) = number t ∷ P s ∷ number 2
     ∷ P s ∷ number c.0 ∷ P s ∷ number c.1 ∷ P s ∷ number c.2 ∷ []
 
--- of a rendition that has no number of its own
+-- the same for a rendition that has no number of its own
 abbrev pub more_entries : Rendition → List CsiParam
 more_entries (Underline k) = number 4 ∷ P 0x3a ∷ number (underline_number k) ∷ []
 more_entries (Foreground c) = color_entries 38 0x3b c

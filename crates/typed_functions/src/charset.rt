@@ -94,7 +94,7 @@ fn multibyte_as_g0(set: MultibyteCharset) -> (u8, Option<u8>, u8)
     }
 }
 
-/// Writes the escape sequence. Where it returns `Ok`, all of it was written.
+/// Writes the escape sequence. If it returns `Ok`, all of it was written.
 impl fmt::Display for Charset {
     ghost output = { λ c. Some (charset_text c) };
 

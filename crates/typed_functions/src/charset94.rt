@@ -3,7 +3,7 @@ ghost use Rattle.std.specs.Prelude.{◌≡◌};
 ghost use Rattle.typed_functions.specs.Charsets.{charset94_at, charset94_byte};
 
 /// A character set of 94 characters, by the country or the use that it is for (ECMA-35, 14.3.2; the
-/// registry of ISO 2022; DEC's VT510, SCS; xterm's list). Where two bytes name one set, the name of
+/// registry of ISO 2022; DEC's VT510, SCS; xterm's list). If two bytes name one set, the name of
 /// the second ends in the byte.
 #[derive(Clone, Copy, Debug, PartialEq, Eq)]
 pub enum Charset94 {

@@ -11,9 +11,9 @@ pub enum ColorSpec {
     Default,
     /// `38;5;n` or `38:5:n`, and of 48 and 58: the entry n of the palette, from 0 to 255.
     PaletteIndex(u8),
-    /// `38;2;r;g;b`, `38:2:r:g:b` or `38:2:s:r:g:b`, and of 48 and 58: the intensities of red,
-    /// green and blue, each from 0 to 255. The colour space `s` may be empty, and up to three
-    /// numbers may follow, of a tolerance (ITU-T T.416, 13.1.8): as in terminals, neither says
+    /// `38;2;r;g;b`, `38:2:r:g:b` or `38:2:s:r:g:b`, and the same for 48 and 58: the intensities of
+    /// red, green and blue, each from 0 to 255. The colour space `s` may be empty, and up to three
+    /// numbers of a tolerance may follow (ITU-T T.416, 13.1.8): as in terminals, neither says
     /// anything.
     TrueColor(RgbColor),
 }

@@ -87,7 +87,7 @@ pub enum Cursor {
     RequestActivePositionReport,
 }
 
-/// Writes the control sequence in its normal spelling, in which defaults are left out. Where it
+/// Writes the control sequence in its normal spelling, in which defaults are left out. If it
 /// returns `Ok`, all of it was written.
 impl fmt::Display for Cursor {
     ghost output = { λ c. let s = cursor_spelling c in

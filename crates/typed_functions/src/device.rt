@@ -25,7 +25,7 @@ pub enum Device {
     SoftReset,
 }
 
-/// Writes the control sequence in its normal spelling, in which defaults are left out. Where it
+/// Writes the control sequence in its normal spelling, in which defaults are left out. If it
 /// returns `Ok`, all of it was written.
 impl fmt::Display for Device {
     ghost output = { λ c. let s = device_spelling c in

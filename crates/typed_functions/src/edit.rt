@@ -47,7 +47,7 @@ pub enum Edit {
     SelectiveEraseInLine(EraseInLine),
 }
 
-/// Writes the control sequence in its normal spelling, in which defaults are left out. Where it
+/// Writes the control sequence in its normal spelling, in which defaults are left out. If it
 /// returns `Ok`, all of it was written.
 impl fmt::Display for Edit {
     ghost output = { λ c. let s = edit_spelling c in

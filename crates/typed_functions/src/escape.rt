@@ -157,7 +157,7 @@ impl Escape {
     }
 }
 
-/// Writes the escape sequence. Where it returns `Ok`, all of it was written.
+/// Writes the escape sequence. If it returns `Ok`, all of it was written.
 impl fmt::Display for Escape {
     ghost output = { λ e. Some (esc_text (escape_sequence e)) };
 

@@ -39,7 +39,7 @@ impl Font {
         self as u8
     }
 
-    // The font of a number from 0 to 10; of any other, Fraktur.
+    // The font of a number from 0 to 10; Fraktur for any other.
     #[inline]
     pub(crate) fn at(number: u8) -> Font
         ensures { result ≡ font_at number }

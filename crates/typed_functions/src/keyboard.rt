@@ -23,7 +23,7 @@ pub enum Keyboard {
     SetKittyState { flags: u8, change: KittyFlagsChange },
 }
 
-/// Writes the control sequence in its normal spelling, in which defaults are left out. Where it
+/// Writes the control sequence in its normal spelling, in which defaults are left out. If it
 /// returns `Ok`, all of it was written.
 impl fmt::Display for Keyboard {
     ghost output = { λ c. let s = keyboard_spelling c in

@@ -22,8 +22,7 @@ pub enum ModeStatus {
     ReportDecPrivateMode { mode: u32, state: ModeState },
 }
 
-/// Writes the control sequence in its normal spelling. Where it returns `Ok`, all of it was
-/// written.
+/// Writes the control sequence in its normal spelling. If it returns `Ok`, all of it was written.
 impl fmt::Display for ModeStatus {
     ghost output = { λ c. let s = mode_status_spelling c in
         Some (csi_text (unspecified (entries s) false s.last)) };

@@ -25,7 +25,7 @@ pub enum Mouse {
     },
 }
 
-/// Writes the control sequence in its normal spelling, in which defaults are left out. Where it
+/// Writes the control sequence in its normal spelling, in which defaults are left out. If it
 /// returns `Ok`, all of it was written.
 impl fmt::Display for Mouse {
     ghost output = { λ c. let s = mouse_spelling c in

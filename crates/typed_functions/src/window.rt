@@ -109,7 +109,7 @@ pub enum Window {
     SetLinesPerPage(u32),
 }
 
-/// Writes the control sequence in its normal spelling, in which defaults are left out. Where it
+/// Writes the control sequence in its normal spelling, in which defaults are left out. If it
 /// returns `Ok`, all of it was written.
 impl fmt::Display for Window {
     ghost output = { λ c. let s = window_spelling c in

@@ -17,7 +17,8 @@ use Rattle.unicode_visibility.specs.Signs.{begins_hint, begins_sign, has_hint, h
 
 -- ---- parts of bytes
 
--- of the bytes before a place and one more, and of those from there on
+-- a text has none if the bytes before a place and one more have none, and those from there on have
+-- none
 hint_parts : (n : ℕ) (s : List ℕ) → has_hint (take (suc n) s) ≡ false
     → has_hint (drop n s) ≡ false → has_hint s ≡ false
 hint_parts n [] h k = refl
@@ -31,7 +32,7 @@ hint_parts (suc n) (a ∷ b ∷ s) h k = by (is_hint a b) h (λ e. hint_parts n 
     by true h rest = absurd cc
     by false h rest = rest h
 
--- of a block and of the bytes from its last one on
+-- the same for a block and the bytes from its last one on
 pub next_block : (s : List ℕ) (at : ℕ) → has_hint (take 33 (drop at s)) ≡ false
     → has_hint (drop (at + 32) s) ≡ false → has_hint (drop at s) ≡ false
 next_block s at h k = hint_parts 32 (drop at s) h (ap has_hint (drop-drop 32 at s) ∙ k)
@@ -51,7 +52,7 @@ one_byte zero (a ∷ []) e = refl
 one_byte zero (a ∷ b ∷ s) e = absurd (omega (arith, e))
 one_byte (suc n) (a ∷ s) e = one_byte n s (omega (arith, e))
 
--- of those from a place on, also from each later one on
+-- if bytes from a place on have none, those from each later one on have none
 pub hint_later : (n m : ℕ) (s : List ℕ) → n ≤ m → has_hint (drop n s) ≡ false
     → has_hint (drop m s) ≡ false
 hint_later zero zero s l h = h

@@ -7,7 +7,7 @@ use Rattle.std.specs.Str.Lossy.{utf8_lossy}
 use Rattle.hex.specs.Hex.{decode_of}
 use Rattle.xtgettcap.specs.declared.builder.GetTcapBuilder.{GetTcapBuilder}
 
--- the text of the bytes that a slice encodes in hexadecimal; of the slice itself if it is not
+-- the text of the bytes that a slice encodes in hexadecimal, or of the slice itself if it is not
 -- hexadecimal
 abbrev pub name_by : {E : Type 0} → List ℕ → Result (List ℕ) E → List ℕ
 name_by p (Ok bytes) = utf8_lossy bytes

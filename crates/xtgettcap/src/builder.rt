@@ -44,8 +44,8 @@ impl<A: Allocator + Copy> GetTcapBuilder<A> {
         self.bytes.push(byte)
     }
 
-    /// These bytes of the data, as `push` of each takes them. The error is that memory was refused,
-    /// and the builder stays as it was; of no bytes it never comes.
+    /// These bytes of the data, with the effect of a `push` of each. The error is that memory was
+    /// refused, and the builder stays as it was; it never comes for no bytes.
     #[tactic(auto, unfolding(crate::specs::Names::HasConsumed), using(crate::proofs::Runs::appended))]
     pub fn push_run(&mut self, bytes: &[u8]) -> Result<(), AllocError>
         ensures each { OnOk result (FoldsTo Pushes self.old bytes.now self.new) }

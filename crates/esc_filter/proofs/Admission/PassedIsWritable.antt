@@ -65,7 +65,7 @@ prints_writable (x ∷ xs) ws h k =
     let p = and_parts (is_clear x) (list_all is_clear xs) h in
     (refl, p.0, prints_writable xs ws p.1 k)
 
--- of a character
+-- the values that are written for a character
 char_writable : {A : Type 0} (u : Unicode) (b : Option ℕ) (t w : Bool) (c : ℕ)
     (ws : List (Value A))
     → (is_within {A = A} (print c) ≡ w) × IsWritable {A = A} (print c) × AreWritable ws
@@ -84,7 +84,7 @@ char_writable {A} Join b true false c ws h = by (may_follow b c)
     by false = prints_writable (number_text c) ws (number_clear c) h.2
 char_writable u b false w c ws h = h
 
--- of a control
+-- the values that are written for a control
 control_writable : {A : Type 0} (r : Returns) (t w : Bool) (c : ControlCode) (ws : List (Value A))
     → (is_within {A = A} (control c) ≡ w) × IsWritable {A = A} (control c) × AreWritable ws
     → AreWritableFrom w ((if t then in_return r else control c ∷ []) ++ ws)

@@ -140,7 +140,7 @@ given_free A limit m (DcsHook f ps is more) h = opened_free A (kind_of f is more
 given_free A limit m (DcsPut b) h = taken_free A m b
 given_free A limit m (ApcDispatch t) h = imaged_free A (image_of t)
 
--- of strings that do not end
+-- the same for strings that do not end
 values_open : (A : Type 0) (limit : Option ℕ) (m : Mode) (es : List Event)
     → list_all goes_on es ≡ true → list_all is_free (values_from {A = A} limit m es) ≡ true
 values_open A limit m [] h = refl
@@ -185,7 +185,7 @@ after_mode m (CsiDispatch es more f) h k = h
 after_mode m (OscDispatch ps) h k = h
 after_mode m (ApcDispatch t) h k = h
 
--- of data without a line feed
+-- the same for data without a line feed
 values_other : (A : Type 0) (limit : Option ℕ) (m : Mode) (es : List Event)
     → mode_free m ≡ true → list_all puts_other es ≡ true
     → list_all is_free (values_from {A = A} limit m es) ≡ true

@@ -78,7 +78,7 @@ plain_moves es f within h =
     sym (ap (λ k. is_screen_function (function_of k) es) (plain_key es f high h)
     ∙ moves es f (f - 0x40) at less)
 
--- of any other function its row says it
+-- the row of any other function says it
 pub other_changes : (f : ControlFunction) (es : List CsiParam) → f ≢ function.SM → f ≢ function.RM
     → f ≢ function.DECSET → f ≢ function.DECRST → f ≢ function.DECSCUSR
     → changes_screen f ≡ changes_with f es

@@ -17,7 +17,7 @@ pub escape_is : (f g : EscapeFunction) (b : ℕ) (t : Terminal) → f ≡ g
     → after_escape_function g b t ≡ after_escape_function f b t
 escape_is f g b t e = sym (ap (λ x. after_escape_function x b t) e)
 
--- of control sequences
+-- the same for control sequences
 pub other_function : (f : ControlFunction) (es : List CsiParam) (t : Terminal)
     → f ≢ function.SGR
     → f ≢ function.SM
@@ -49,7 +49,7 @@ other_function function.XTPOPSGR_2 es t _ _ _ _ _ _ _ _ _ _ _ k _ = absurd (k re
 other_function function.DECSTR es t _ _ _ _ _ _ _ _ _ _ _ _ k = absurd (k refl)
 other_function f es t _ _ _ _ _ _ _ _ _ _ _ _ _ = refl
 
--- of escape sequences
+-- the same for escape sequences
 pub other_escape_function : (f : EscapeFunction) (b : ℕ) (t : Terminal)
     → f ≢ escape.DECSC
     → f ≢ escape.DECRC

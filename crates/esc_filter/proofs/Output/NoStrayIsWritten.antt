@@ -19,7 +19,7 @@ below : (x : ℕ) → x < 128 → x < 0xad
 below x h = omega (arith, h)
 
 module _ (A : Type 0) where
-  -- of ASCII
+  -- the same for ASCII
   ascii_stays : (b : Option ℕ) (xs : List ℕ) → list_all is_ascii xs ≡ true
       → some_strays {A = A} b (map print xs) ≡ false
   ascii_stays b [] h = refl

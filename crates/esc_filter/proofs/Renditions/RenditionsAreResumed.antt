@@ -211,7 +211,7 @@ module _ {P A : Type 0} (k : Bool) (u : Guard) (limit : ℕ) (admits : Value A �
     opening = λ _. opened;
   }
 
-  -- of a line that has begun
+  -- the end of a line that has begun
   pub resumes_end : (d l : List ℕ) (old new : ResumingFilter P A) → IsMarked k u limit admits d old
       → old.is_open ≡ true → IsLine l → EndsWith u admits limit d l old new
       → new.resumes ≡ old.resumes → GrowsResumed k u admits limit d l old new
@@ -229,7 +229,7 @@ module _ {P A : Type 0} (k : Bool) (u : Guard) (limit : ℕ) (admits : Value A �
         ),
       )
 
-  -- of a blank one
+  -- a blank line
   pub resumes_blank : (d l : List ℕ) (old new : ResumingFilter P A)
       → IsMarked k u limit admits d old → old.is_open ≡ false → IsLine l → length l ≡ 1
       → GrowsBy u admits limit d l old.lines new.lines → new.resumes ≡ old.resumes
@@ -249,7 +249,7 @@ module _ {P A : Type 0} (k : Bool) (u : Guard) (limit : ℕ) (admits : Value A �
         ),
       )
 
-  -- of any other
+  -- any other line
   pub resumes_line : (d l : List ℕ) (old mid new : ResumingFilter P A)
       → IsMarked k u limit admits d old → old.is_open ≡ false → IsLine l → length l ≢ 1
       → GrowsBy u admits limit d (At k u limit admits d) old.lines mid.lines
