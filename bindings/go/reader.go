@@ -48,7 +48,7 @@ func (r *Reader) Close() error {
 	return nil
 }
 
-// fill reads a chunk. What it adds is due before its error.
+// fill reads a chunk. The text that it adds is due before its error.
 func (r *Reader) fill() {
 	n, err := r.from.Read(r.chunk)
 	r.text = r.text[:0]

@@ -6,7 +6,7 @@ package escapestream
 import "C"
 
 // SanitizerOptions say how a log is sanitized, as the options of escfilter do. The zero value has
-// what that has where none is given.
+// the same choices as the program without options.
 type SanitizerOptions struct {
 	// Limit is the number of bytes that are kept of an unfinished sequence or string; DefaultLimit if
 	// it is 0.

@@ -178,7 +178,7 @@ func TestSanitizersThatAreNone(t *testing.T) {
 	}
 }
 
-// Each choice of options gives what the program does, where ESCFILTER names it.
+// Each choice of options gives the output of the program, if ESCFILTER names it.
 func TestAsTheProgram(t *testing.T) {
 	program := os.Getenv("ESCFILTER")
 	if program == "" {

@@ -43,7 +43,7 @@ impl Pane {
         Ok(out)
     }
 
-    /// What the program has to get for its questions in that chunk.
+    /// The answers that the program has to get for its questions in that chunk.
     fn answers(&self) -> String {
         let (row, column) = self.parser.screen().cursor_position();
         let answer = |request: &Request| match request {

@@ -1,9 +1,10 @@
 // SPDX-License-Identifier: MIT
-//! What the parser of actions of the crate `escape-stream` takes for a stream: `actions FILE CHUNK
-//! PASSES`, as vte.rs says. Each action is counted, and the lengths of texts are added up; then it
-//! is dropped, with the memory that it took. It is built with one of `--cfg parse`, `parse_kept`,
-//! `parse_borrowed` and `parse_borrowed_kept`: with one call of the parser alone, whose closure is
-//! inlined as in a program that has one. By `kept` each action is wanted whole, in memory.
+//! The time that the parser of actions of the crate `escape-stream` takes for a stream: `actions
+//! FILE CHUNK PASSES`, as vte.rs says. Each action is counted, and the lengths of texts are added
+//! up; then it is dropped, with the memory that it took. It is built with one of `--cfg parse`,
+//! `parse_kept`, `parse_borrowed` and `parse_borrowed_kept`: with one call of the parser alone,
+//! whose closure is inlined as in a program that has one. By `kept` each action is wanted whole, in
+//! memory.
 #[cfg(any(parse, parse_kept))]
 use escape_stream::action::Action;
 use escape_stream::action::Parser;

@@ -1,8 +1,8 @@
 // SPDX-License-Identifier: MIT
-// What the parser of libvterm takes for a stream: `libvterm FILE CHUNK PASSES`, as vte.rs says. The
-// parser alone: no state and no screen. libvterm hands its text callback all that is left, and
-// takes the number of bytes that it took; its own next layer decodes UTF-8 there and stops at a
-// control, so this does too.
+// The time that the parser of libvterm takes for a stream: `libvterm FILE CHUNK PASSES`, as vte.rs
+// says. The parser alone: no state and no screen. libvterm hands its text callback all that is
+// left, and takes the number of bytes that it took; its own next layer decodes UTF-8 there and
+// stops at a control, so this does too.
 #include <stdio.h>
 #include <stdlib.h>
 #include <vterm.h>

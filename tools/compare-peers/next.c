@@ -1,7 +1,7 @@
 // SPDX-License-Identifier: MIT
-// What the parser for C takes for a stream: `next FILE CHUNK PASSES`, as vte.rs says, by
-// escape_stream_next with a buffer of 64 KiB. Of an event it adds up what the program over vte
-// does: of a control sequence the count of its parameters and the final byte.
+// The time that the parser for C takes for a stream: `next FILE CHUNK PASSES`, as vte.rs says, by
+// escape_stream_next with a buffer of 64 KiB. It adds up the same parts of an event as the program
+// over vte: the count of parameters and the final byte of a control sequence.
 #include "escape_stream_parser.h"
 #include <stdio.h>
 #include <stdlib.h>

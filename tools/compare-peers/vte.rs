@@ -1,8 +1,8 @@
 // SPDX-License-Identifier: MIT
-//! What vte, the parser of Alacritty, takes for a stream: `vte FILE CHUNK PASSES` reads the file and
-//! gives it to a new parser in chunks of so many bytes, so many times. Each call of the actor is
-//! counted and what it gets added up, as the actor of `bench` does, so nothing of the work is
-//! optimised away. With `--cfg per_byte` the parser has the calls of vte before 0.14.
+//! The time that vte, the parser of Alacritty, takes for a stream: `vte FILE CHUNK PASSES` reads
+//! the file and gives it to a new parser in chunks of so many bytes, so many times. Each call of
+//! the actor is counted and its arguments are added up, as the actor of `bench` does, so nothing of
+//! the work is optimised away. With `--cfg per_byte` the parser has the calls of vte before 0.14.
 use std::{env, fs};
 
 #[derive(Default)]

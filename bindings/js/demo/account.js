@@ -6,7 +6,7 @@ import { functionOf } from "../index.js";
 // How many lines are kept of a request.
 const LINES = 8;
 
-// What an operating system command is called: its number, and what it does in words.
+// The name of an operating system command: its number, and its description in words.
 const COMMANDS = {
   SetIconNameAndWindowTitle: ["OSC 0", "set the title and the icon name"],
   SetWindowTitle: ["OSC 2", "set the title"],
@@ -30,7 +30,7 @@ const COMMANDS = {
   Unspecified: ["OSC", "unknown"],
 };
 
-// What changes more than the screen, or has a terminal send something: it stands out.
+// Requests that change more than the screen, or have a terminal send something: they stand out.
 const ASKS = new Set(`ClearSelection QuerySelection SetSelection SystemNotification
   RxvtExtension`.split(/\s+/));
 const COLORS = new Set(["ChangeColorNumber", "ChangeDynamicColors"]);
@@ -74,7 +74,7 @@ function device(mode) {
 }
 
 /**
- * The request of an action, or undefined where it asks for nothing: its name, what it does in
+ * The request of an action, or undefined if it asks for nothing: its name, its description in
  * words, whether it stands out, and whether a page shows it.
  */
 export function requestOf(action) {
@@ -96,7 +96,7 @@ export function requestOf(action) {
   }
 }
 
-// What ends a string: part of it, and no request.
+// The end of a string: part of it, and no request.
 const isTerminator = (it) => it.type === "Esc" && it.control === "\\" && it.intermediate === null;
 
 /** The requests of a stream, in the order in which they come first. */

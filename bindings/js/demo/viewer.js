@@ -6,7 +6,7 @@ import { streamOf } from "./recording.js";
 import { callsAt } from "./screen.js";
 
 const CHUNK = 262_144;
-// What a page begins with that is saved: nothing in it is loaded or run.
+// The beginning of a page that is saved: nothing in it is loaded or run.
 const HEAD = `<!DOCTYPE html>
 <meta charset="utf-8">
 <meta http-equiv="Content-Security-Policy"

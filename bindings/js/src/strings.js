@@ -8,7 +8,7 @@ const rows = STRING_ROWS.map(([kind, key, begin, start, name, phrase]) => {
 
 export const controlStrings = Object.freeze(rows.map((it) => it.row));
 
-// What a row begins with has no other bytes than ASCII.
+// The beginning of a row has no other bytes than ASCII.
 const decoder = new TextDecoder("latin1");
 const SEMICOLON = 0x3b;
 const MOST_DIGITS = 32;

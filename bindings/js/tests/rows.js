@@ -65,7 +65,7 @@ export function streams() {
   return [...found, ...randomStreams(400)];
 }
 
-// What random streams are made of.
+// The parts of which random streams are made.
 const PARTS = [
   "\x1b[", "\x1b]", "\x1bP", "\x1b_", "\x1b\\", "\x07", "\x9b", "\xc2\x9b", "\x9c", ";", ":", "?",
   "8;;https://x.org/", "0;title", "52;c;aGk=", "38;5;", "38;2;1;2;3", "m", "H", "J", "K", "1",

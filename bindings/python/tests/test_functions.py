@@ -91,7 +91,7 @@ def test_controls() -> None:
     assert [function(Control(it)) for it in (0x61, 0xA0, 0xFF)] == [None] * 3
 
 
-# What a terminal takes for the first three parameters, by ECMA-48, DEC and xterm.
+# The values that a terminal takes for the first three parameters, by ECMA-48, DEC and xterm.
 VALUES = [
     (b"\x1b[H", (1, 1, None)),
     (b"\x1b[;5H", (1, 5, None)),

@@ -11,7 +11,7 @@ POLICIES = {
     "as-screen": Policy.SCREEN,
     "as-all": Policy.ALL,
 }
-# Of longer streams the chunks are of one byte, and not of every size.
+# The chunks of longer streams are of one byte, and not of every size.
 EACH_SIZE_UP_TO = 2000
 
 

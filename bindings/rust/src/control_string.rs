@@ -79,8 +79,8 @@ impl ControlString {
 
     /// The string of a device control string with these parameters, this private prefix and these
     /// intermediates, this final byte and these data, as [`Event::Dcs`](crate::Event::Dcs) has
-    /// them. Of the data the beginning is enough: a few strings are told apart by their first ten
-    /// bytes, and have no name where there are no data.
+    /// them. The beginning of the data is enough: a few strings are told apart by their first ten
+    /// bytes, and have no name if there are no data.
     ///
     /// ```
     /// use escape_stream::ControlString;

@@ -115,8 +115,8 @@ impl ControlFunction {
 
     /// The function of a control sequence with this private prefix, one of `<` `=` `>` `?`, these
     /// intermediates, so many parameters and separators between them, and this final byte, if it
-    /// has a name. Of two functions that differ in nothing else the count decides: it matters for
-    /// the final bytes `T`, `s` and `u` alone.
+    /// has a name. The count decides between two functions that differ in nothing else: it matters
+    /// for the final bytes `T`, `s` and `u` alone.
     pub fn of(
         private_prefix: Option<u8>,
         intermediates: &[u8],
@@ -165,8 +165,8 @@ impl EscapeFunction {
         EscapeFunction::of_key(key)
     }
 
-    /// The function of an escape sequence with all of these intermediates and this final byte,
-    /// if it has a name. Of two intermediates both count (ECMA-35, 14.3.2 and 15.4.2).
+    /// The function of an escape sequence with all of these intermediates and this final byte, if
+    /// it has a name. If there are two intermediates, both count (ECMA-35, 14.3.2 and 15.4.2).
     ///
     /// ```
     /// use escape_stream::EscapeFunction;
@@ -190,7 +190,7 @@ impl EscapeFunction {
     }
 
     /// The function of a C1 control, 80 to 9F (hexadecimal): that of ESC and the byte 40 less
-    /// (ECMA-48, 5.3). Of another code `None`.
+    /// (ECMA-48, 5.3). `None` for another code.
     pub fn of_c1(code: u8) -> Option<EscapeFunction> {
         match code {
             0x80..=0x9f => EscapeFunction::of(None, code - 0x40),
@@ -200,8 +200,8 @@ impl EscapeFunction {
 }
 
 impl C0 {
-    /// The control of this code: 00 to 1F (hexadecimal), or 7F, which is DEL. Of another code
-    /// `None`.
+    /// The control of this code: 00 to 1F (hexadecimal), or 7F, which is DEL. `None` for another
+    /// code.
     ///
     /// ```
     /// use escape_stream::C0;

@@ -43,8 +43,8 @@ impl Params {
         self.joined = 0;
     }
 
-    // Appends a number, if there is room, and says whether there was. What follows it is joined
-    // to it if a colon stands between them.
+    // Appends a number, if there is room, and says whether there was. The next number is joined to
+    // it if a colon stands between them.
     #[inline]
     pub(crate) fn push(&mut self, number: u16, is_joined: bool) -> bool {
         let Some(place) = self.numbers.get_mut(self.len) else {

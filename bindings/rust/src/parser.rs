@@ -280,7 +280,7 @@ impl Parser {
 
     /// Takes the next bytes of the stream, calls `act` with each event and the bytes that were
     /// taken for it, and returns how many were taken: all of them, or up to an event for which
-    /// `act` is false. Of two events of a byte the second, for which none is taken, is handed out
+    /// `act` is false. If a byte has two events, the second, for which none is taken, is handed out
     /// then too.
     ///
     /// # Errors
@@ -377,7 +377,7 @@ impl Parser {
     }
 
     // How many bytes fit for sure, and some: each adds at most U+FFFD to a string, and so do those
-    // of a character that is unfinished. Where few would fit the buffer grows.
+    // of a character that is unfinished. If few would fit the buffer grows.
     #[inline]
     fn room(&mut self) -> usize {
         let half = self.buffer.len() / 2;

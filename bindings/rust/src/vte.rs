@@ -146,7 +146,7 @@ impl Parser {
 
 impl<const OSC_RAW_BUF_SIZE: usize> Parser<OSC_RAW_BUF_SIZE> {
     /// A parser at the beginning of a stream that hands out strings of up to `OSC_RAW_BUF_SIZE`
-    /// bytes, as [`Parser::with_limit`] has it. Of a longer command `vte` hands out its beginning.
+    /// bytes, as [`Parser::with_limit`] has it. `vte` hands out the beginning of a longer command.
     ///
     /// ```
     /// let mut parser = escape_stream::vte::Parser::<64>::new_with_size();

@@ -10,8 +10,8 @@ use rows::count_rows;
 use std::mem::size_of;
 use streams::Random;
 
-// What a stream gives in these chunks by `parse_borrowed`, each action made owned, once it was
-// compared with what `parse` gives.
+// The actions that a stream gives in these chunks by `parse_borrowed`, each made owned, once it was
+// compared with the one that `parse` gives.
 fn compared<'a>(limit: usize, chunks: impl Iterator<Item = &'a [u8]>) -> Vec<Action> {
     let [mut owning, mut borrowing] = [(); 2].map(|()| Parser::with_limits(limit, limit));
     let (mut wanted, mut found) = (Vec::new(), Vec::new());

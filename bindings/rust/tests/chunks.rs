@@ -2,8 +2,8 @@
 //! The events of streams in chunks of each size are those of the whole.
 use escape_stream::{Event, Parameters, Parser, StringEnd, dcs_numbers, osc_number, osc_parts};
 
-// What was handed out, in a form in which a run is the same as its characters or bytes by
-// themselves.
+// The events that were handed out, in a form in which a run is the same as its characters or bytes
+// by themselves.
 fn log(stream: &[u8], size: usize, limit: usize) -> Vec<String> {
     let mut log = Vec::new();
     let mut parser = Parser::with_limit(limit);

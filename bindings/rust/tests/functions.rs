@@ -19,11 +19,11 @@ extern "C" {
     fn escape_stream_control_function(code: u8, out: *mut Row) -> bool;
 }
 
-// What is said of a function: its name, its words, whether it changes the screen alone, and whether
+// The facts about a function: its name, its words, whether it changes the screen alone, and whether
 // it is answered.
 type Said = (String, String, bool, bool);
 
-// What a call of the library writes.
+// The row that a call of the library writes.
 fn written(call: impl FnOnce(*mut Row) -> bool) -> Option<Said> {
     let mut row = Row {
         name: [0; 16],

@@ -28,7 +28,7 @@ fn commands(stream: &[u8]) -> Vec<String> {
     found
 }
 
-// What is written of a command reads back as it.
+// The text that is written for a command reads back as it.
 fn assert_reads_back(command: &OperatingSystemCommand) {
     let bytes = command.to_bytes().unwrap();
     let text = bytes

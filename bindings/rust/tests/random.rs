@@ -56,7 +56,7 @@ fn by_first_actions() {
             actions.into_iter().for_each(|it| it.append_to(&mut found));
             rest = &rest[count..];
         }
-        // What the last bytes give is dropped where they leave something unfinished.
+        // The actions of the last bytes are dropped if they leave something unfinished.
         let wanted = in_chunks(&stream[..stream.len() - rest.len()], 1000);
         assert_eq!(found, wanted, "{}", stream.escape_ascii());
     }

@@ -1,5 +1,6 @@
 // SPDX-License-Identifier: MIT
-//! What is read through a filter, in chunks of all kinds, is what it gives of the whole.
+//! The text that is read through a filter, in chunks of all kinds, is the text that it gives for
+//! the whole.
 use escape_stream::{ChunkFilter, FilterReader, FilterWriter, Policy};
 use std::io::{self, ErrorKind, Read, Write};
 

@@ -11,7 +11,7 @@ use std::str;
 
 const LIMIT: usize = 1_048_576;
 
-// Of longer texts only some capacities are tried, and of longer streams large chunks alone.
+// Only some capacities are tried for longer texts, and only large chunks for longer streams.
 const EACH_CAPACITY_UP_TO: usize = 2000;
 
 const POLICIES: [(&str, Policy); 4] = [
@@ -38,7 +38,7 @@ fn check_capacities(row: &Row, text: &[u8], call: impl Fn(&mut [u8]) -> usize) {
     }
 }
 
-// What takes back what a stream leaves changed, which a filter in chunks gives when it is finished.
+// The text that undoes the changes of a stream, which a filter in chunks gives when it is finished.
 fn end_of(policy: Policy, limit: usize, stream: &[u8]) -> Vec<u8> {
     let mut end = Vec::new();
     let mut filter = ChunkFilter::with_limit(policy, limit).unwrap();

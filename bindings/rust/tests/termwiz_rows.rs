@@ -78,7 +78,7 @@ fn window(it: Window) -> String {
     }
 }
 
-// What the table says of a value that is no rendition.
+// The words of the table for a value that is no rendition.
 fn shown(value: &CSI) -> String {
     let text = match value {
         CSI::Cursor(it) => cursor(*it),
@@ -129,7 +129,8 @@ fn color(name: &str, it: ColorSpec, is_of_palette: bool) -> String {
     }
 }
 
-// What the table says of a rendition: one of the palette by its number, or by that of the palette.
+// The words of the table for a rendition: one of the palette by its number, or by that of the
+// palette.
 fn rendition(it: Sgr, wanted: &str) -> String {
     let is_of_palette = wanted.starts_with("Ansi");
     match it {
@@ -186,7 +187,7 @@ fn check_modes(bytes: &[u8], wanted: &str) {
     assert_eq!(found.next(), None, "{wanted}");
 }
 
-// What the table has and termwiz has not, among it a count of 2^32.
+// Values that the table has and termwiz has not, among them a count of 2^32.
 fn is_here(wanted: &str) -> bool {
     if wanted.contains("4294967296") {
         return false;

@@ -1,5 +1,5 @@
 // SPDX-License-Identifier: MIT
-//! What may move between threads, be copied, and be shown; and the kinds of errors.
+//! The types that may move between threads, be copied, and be shown; and the kinds of errors.
 use escape_stream::html::ChunkPage;
 use escape_stream::{
     ChunkFilter, Error, Event, Filter, FilterReader, NormalReader, NormalWriter, Normaliser,

@@ -106,7 +106,7 @@ fn check(stream: &[u8], told: &[&str]) {
 
 type Row = (&'static [u8], &'static [&'static str]);
 
-// What both do: the calls are those of the crate `vte` for these streams.
+// The streams that both treat alike: the calls are those of the crate `vte` for these streams.
 #[rustfmt::skip]
 const SAME: &[Row] = &[
     // Characters and controls.
@@ -175,7 +175,7 @@ fn same() {
     }
 }
 
-// What the crate does otherwise.
+// The streams that the crate treats otherwise.
 #[rustfmt::skip]
 const OTHERWISE: &[Row] = &[
     // C1 controls among text are obeyed, as a byte and in UTF-8.

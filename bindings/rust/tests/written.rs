@@ -1,5 +1,5 @@
 // SPDX-License-Identifier: MIT
-//! What is written of the actions of a stream is the normal form of it.
+//! The text that is written for the actions of a stream is the normal form of it.
 mod rows;
 
 use escape_stream::action::{
@@ -53,7 +53,7 @@ const TERMINATOR: Action = Action::Esc(Esc {
     control: b'\\',
 });
 
-// What is shown of each action, one after another, but for the terminators of strings.
+// The text that is shown of each action, one after another, but for the terminators of strings.
 fn shown(actions: &[Action]) -> String {
     let mut text = String::new();
     let mut is_ended = false;
@@ -78,7 +78,7 @@ fn actions_of_rows() {
             |it: &&Action| matches!(it, Action::DeviceControl(DeviceControlMode::Enter(_)));
         let exits = |it: &&Action| matches!(it, Action::DeviceControl(DeviceControlMode::Exit));
         let is_cut = actions.iter().filter(enters).count() != actions.iter().filter(exits).count();
-        // What a stream of many actions means is written one action at a time.
+        // The actions of a stream with many of them are written one at a time.
         if is_cut || actions.len() > 2000 || actions.iter().any(is_exception) {
             return false;
         }

@@ -38,8 +38,8 @@ static u64 size_of_class(u64 class)
 }
 
 /*
- * Grows the memory, and says whether it grew. Where it did not, memory.grow answers -1, or
- * 2^32 - 1 in a module that was lowered to a 32-bit memory.
+ * Grows the memory, and says whether it grew. If it did not, memory.grow answers -1, or 2^32 - 1 in
+ * a module that was lowered to a 32-bit memory.
  */
 static _Bool grow(u64 pages)
 {

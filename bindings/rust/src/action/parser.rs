@@ -179,7 +179,7 @@ impl Parser {
     }
 
     /// Takes the next bytes of the stream up to the end of the first action, and returns it with
-    /// how many bytes these are. Of a run of characters it is the first one. Further actions of
+    /// how many bytes these are. For a run of characters it is the first one. Further actions of
     /// its last byte are dropped, as that of a CAN which ends a command.
     ///
     /// `None` if the bytes give no action: then all were taken. After a

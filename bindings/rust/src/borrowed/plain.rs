@@ -4,8 +4,8 @@ use super::{FinalTermSemanticPrompt, Hyperlink, List, OperatingSystemCommand};
 use core::str;
 
 /// The command of a text that is a title, a link without parameters or with `id` alone, the end of
-/// a link, or the mark of a prompt without keys or with `aid` alone. Of others, and if a part is
-/// empty or has a `;`, `:` or `=` besides, there is none: the library reads them.
+/// a link, or the mark of a prompt without keys or with `aid` alone. For other texts, and if a part
+/// is empty or has a `;`, `:` or `=` besides, there is none: the library reads them.
 ///
 /// These come most often, and this costs a tenth of what the library's call does, which makes rows
 /// of fields. In debug builds each is compared with what that call says.

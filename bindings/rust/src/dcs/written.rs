@@ -94,7 +94,7 @@ impl SixelData {
     }
 }
 
-// The character of six pixels. Of more than 63 it is none of a sixel.
+// The character of six pixels. A number over 63 gives none of a sixel.
 fn pixels_char(pixels: u8) -> char {
     char::from(pixels.saturating_add(b'?'))
 }

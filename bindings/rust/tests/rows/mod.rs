@@ -15,7 +15,7 @@ impl Row<'_> {
         })
     }
 
-    // What its lines of this word stand for, joined.
+    // The bytes that its lines of this word stand for, joined.
     pub fn bytes(&self, word: &str) -> Option<Vec<u8>> {
         let mut found = None;
         for (name, text) in self.lines() {

@@ -66,7 +66,7 @@ impl<'a> Values<'a> {
         }))
     }
 
-    // The next rendition. What is not known, or is cut off, comes with all that follows it.
+    // The next rendition. One that is not known, or is cut off, comes with all that follows it.
     fn rendition(&mut self, params: &'a [CsiParam]) -> CSI {
         match sgr::first_of(params) {
             Some((_, None)) if self.is_truncated => self.unspecified(params.into()),

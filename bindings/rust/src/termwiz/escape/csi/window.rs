@@ -20,7 +20,7 @@ pub enum Window {
         /// The place from the top.
         y: i64,
     },
-    /// 4 gives it a size. What is left out stays as it is.
+    /// 4 gives it a size. A size that is left out stays as it is.
     ResizeWindowPixels {
         /// The width.
         width: Option<i64>,
@@ -33,7 +33,7 @@ pub enum Window {
     LowerWindow,
     /// 7 draws it again.
     RefreshWindow,
-    /// 8 gives its text a size. What is left out stays as it is.
+    /// 8 gives its text a size. A size that is left out stays as it is.
     ResizeWindowCells {
         /// The width.
         width: Option<i64>,
