@@ -1,5 +1,5 @@
 // SPDX-License-Identifier: MIT
-// What a stream asks of a terminal: each request by its name, how often it comes, and in which
+// The requests of a stream to a terminal: each by its name, how often it comes, and in which
 // lines. It knows no page.
 import { functionOf } from "../index.js";
 

@@ -1,6 +1,6 @@
 // SPDX-License-Identifier: MIT
-// What takes a stream in chunks and gives a text for each: a filter, a page, the normal form; a
-// sanitizer is in sanitizer.js.
+// Objects that take a stream in chunks and give a text for each: a filter, a page, the normal form;
+// a sanitizer is in sanitizer.js.
 import { Bytes, CHUNK, Chunks, Text, rooms } from "./chunks.js";
 import { Kept, calls, done, give, limitOf, memory, take } from "./wasm.js";
 

@@ -1,5 +1,5 @@
 // SPDX-License-Identifier: MIT
-// What is taken is given back, and a refusal of memory leaves the module as it was.
+// Memory that is taken is given back, and a refusal of memory leaves the module as it was.
 import assert from "node:assert/strict";
 import test from "node:test";
 import {

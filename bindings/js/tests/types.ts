@@ -1,5 +1,5 @@
 // SPDX-License-Identifier: MIT
-// What a program in TypeScript may write: it is compiled, and not run.
+// The calls that a program in TypeScript may write: it is compiled, and not run.
 import {
   Filter, HtmlWriter, Parser, Sanitizer, actions, command, controlStringOf, events, filter,
   filterStream, functionOf, htmlStream, image, normal, sanitize, sanitizerStream, sixel, strip,
