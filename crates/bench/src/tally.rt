@@ -83,6 +83,6 @@ impl<A: Allocator> Sink<Action<A>> for Tally {
     }
 }
 
-/// Lets go of an action, out of the way of the code that counts characters.
+/// Lets go of an action, apart from the code that counts characters.
 #[inline(never)]
 pub(crate) fn let_go<A: Allocator>(_action: Action<A>) {}

@@ -98,7 +98,7 @@ GrowsTo V r b old new = GrowsBy V old.rule r b (added_by old) (added_by new) new
 -- unfinished rest before.
 pub record TakesSome {P A E : Type 0} (V : Admitter P A) (rests : List ℕ → Reveal P A → Type 0)
     (old : Reveal P A) (b : List ℕ) (result : Result ℕ E) (new : Reveal P A) : Type 0 where
-  -- one at least
+  -- at least one
   pub count : IfOk result (λ n. (0 < n) × (n ≤ length b))
   -- the text grew by the text that they add
   pub given : (r : List ℕ) → rests r old → IfOk result (λ n. GrowsTo V r (take n b) old new)

@@ -114,7 +114,7 @@ impl<'p, P: Admit<A>, A: Allocator> Sink<Action<A>> for Judge<'p, P> {
         Ok(true)
     }
 
-    // The same of a command.
+    // The same for a command.
     fn receive_command(&mut self, text: &[u8]) -> Result<bool, AllocError> {
         let Some(passes) = self.policy.admits_command(text) else {
             return Ok(false);
@@ -197,7 +197,7 @@ fn judge_control<P: Admit<A>, A: Allocator>(
     Some(passes(policy, &Action::Control(code)))
 }
 
-// Frames some of these bytes, one at least.
+// Frames some of these bytes, at least one.
 fn judge_some<P: Admit<A>, A: Allocator + Copy>(
     framer: &mut VTParser<A>,
     performer: &mut Performer<Judge<'_, P>, A>,

@@ -107,7 +107,7 @@ fn push_plain<A: Allocator>(
     Ok((Pending::Nothing, run))
 }
 
-// The same of the first byte.
+// The same for the first byte.
 fn push_one<A: Allocator>(
     text: &mut Vec<u8, A>,
     begun: Pending,

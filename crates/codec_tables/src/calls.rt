@@ -71,7 +71,7 @@ pub fn answer(
     }
 }
 
-// The same of streams and of sixel images.
+// The same for streams and for sixel images.
 fn of_stream(
     call: &str,
     alloc: Global,
@@ -92,7 +92,7 @@ fn of_stream(
     }
 }
 
-// The same of allocators, and of the parser that is lent its memory.
+// The same for allocators, and for the parser that is lent its memory.
 fn of_allocator(
     call: &str,
     alloc: Global,

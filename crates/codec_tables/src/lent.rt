@@ -32,7 +32,7 @@ fn first_other(alloc: Global, input_chunks: &[&[u8]]) -> Option<u64> {
     None
 }
 
-// The same of the noise of this number.
+// The same for the noise of this number.
 fn is_noise_same(alloc: Global, input_chunks: &[&[u8]], seed: u64) -> bool {
     match &noise(alloc, input_chunks, seed) {
         Ok(stream) => is_same_in_input_chunks(alloc, stream),

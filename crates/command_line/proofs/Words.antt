@@ -54,7 +54,7 @@ files_next known os ns w ws rest e f o = elim (cases_Bool (is_file w)) [
       (ap (λ us. os ++ us) (sym (files_left known (takes_next known w) ws))))))
 ]
 
--- the same of words that have a text
+-- the same for words that have a text
 pub options_step : {S : Type 0} (text : S → List ℕ) (known : List Known)
     (os ns : List (List ℕ × List ℕ × ℕ × ℕ)) (w : List ℕ) (x : S) (all after rest : List S)
     → w ≡ text x → all ≡ x ∷ after → ends_options w ≡ false

@@ -32,7 +32,7 @@ page_push (Ok u) s t p fit h ok err =
     subst (λ x. ∥ IsPage x ∥₁) (sym ok) (∥∥₁_map h (page_page_part s p fit))
 page_push (Err e) s t p fit h ok err = subst (λ x. ∥ IsPage x ∥₁) (sym err) h
 
--- the same of a change of the colour or the end of a line
+-- the same for a change of the colour or the end of a line
 pub page_grow : {U E : Type 0} (r : Result U E) (s t u : List ℕ) → IsPagePart u → ∥ IsPage s ∥₁
     → OnOk r (t ≡ s ++ u) → OnErr r (t ≡ s) → ∥ IsPage t ∥₁
 page_grow r s t u (p, fit, e) h ok err =

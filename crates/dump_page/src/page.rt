@@ -76,7 +76,7 @@ impl Page {
         self.words.add_phrase(phrase);
     }
 
-    /// Appends spaces up to this column, and one at least.
+    /// Appends spaces up to this column, and at least one.
     pub fn pad(&mut self, columns: usize) {
         let missing = columns.saturating_sub(self.words.columns()).max(1);
         for _ in 0..missing / 32 {

@@ -367,7 +367,7 @@ impl Phrase {
         }
     }
 
-    // The same of few bytes.
+    // The same for few bytes.
     fn add_short_base64(&mut self, bytes: &[u8]) {
         let text = short_base64::encode(bytes);
         if let Some(plain) = plain_text(&text[..short_base64::length(bytes.len()).min(32)]) {

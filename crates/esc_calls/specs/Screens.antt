@@ -20,7 +20,7 @@ ScreenHasConsumed z s = Keeps screen_in (λ x. HasConsumed {A = Global} z s x.te
 abbrev pub ScreenTakes : Size → List ℕ → List ℕ → InChunks → Type 0
 ScreenTakes z s b = Keeps screen_in (λ x. TakesIn {A = Global} z s b x.terminal)
 
--- so many columns and rows, but one at least
+-- so many columns and rows, but at least one
 abbrev pub size_for : ℕ → ℕ → Size
 size_for columns rows = screen_size (max columns 1) (max rows 1)
 

@@ -177,7 +177,7 @@ impl ScreenState {
         }
     }
 
-    /// The same of the id of a link, which may have none.
+    /// The same for the id of a link, which may have none.
     pub(crate) fn id(&self, number: usize, out: &mut [u8]) -> usize {
         match self.terminal.styles() {
             Some(styles) => put(id_of(styles, number).as_bytes(), out),

@@ -51,7 +51,7 @@ abbrev pub left : Option ℕ → ℕ → Option ℕ
 left None u = left_alone u
 left (Some h) u = if is_low u then None else left_alone u
 
--- the same of units, one after another
+-- the same for units, one after another
 abbrev pub given_after : Option ℕ → List ℕ → List ℕ
 given_after h [] = []
 given_after h (u ∷ us) = unit_utf8 h u ++ given_after (left h u) us

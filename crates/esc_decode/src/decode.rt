@@ -37,7 +37,7 @@ pub(crate) fn decode<A: Allocator>(
     }
 }
 
-// The same of UTF-8.
+// The same for UTF-8.
 fn decode_utf8<A: Allocator>(
     chunk: &mut Vec<u8, A>,
     begun: Pending,

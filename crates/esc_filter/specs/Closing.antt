@@ -93,7 +93,7 @@ abbrev pub ends_in_semicolon : Bool → List ℕ → Bool
 ends_in_semicolon before [] = before
 ends_in_semicolon before (b ∷ s) = ends_in_semicolon (b == 0x3b) s
 
--- the same of a link whose address is in parts; none are no link
+-- the same for a link whose address is in parts; none are no link
 abbrev pub after_address : List (List ℕ) → Terminal → Terminal
 after_address [] t = t
 after_address (u ∷ us) t = record t { link = is_address (u ∷ us) }

@@ -56,7 +56,7 @@ EndsResumed {P} {A} k u admits limit s t f = ResumedHasConsumed k u limit admits
 
 -- ---- the stream in which they are written again
 
--- this holds of each such stream that its filter of lines may have been fed
+-- this holds for each such stream that its filter of lines may have been fed
 abbrev pub OnStream : {P A : Type 0} → Admitter P A → ResumingFilter P A
     → (Bool → Guard → ℕ → (Value A → Bool) → List ℕ → Type 0) → Type 0
 OnStream V f C =

@@ -147,7 +147,7 @@ after_private n b t =
     else if n == 2026 then record t { held = b }
     else t
 
--- the same of a mode of ECMA-48
+-- the same for a mode of ECMA-48
 abbrev pub after_mode : ℕ → Bool → Terminal → Terminal
 after_mode n b t = if n == 4 then record t { insert = b } else t
 

@@ -1,4 +1,4 @@
-//! Whoever says which actions a filter lets through.
+//! The rules that say which actions a filter lets through.
 ghost use Rattle.std.specs.Prelude.{◌≡◌, Bool, IfSome, IsTrue, Some, false, true};
 ghost use Rattle.std.specs.List.{list_all, list_any};
 ghost use Rattle.std.specs.Str.{chars};
@@ -54,7 +54,7 @@ pub trait Admit<A: Allocator> {
         false
     }
 
-    /// The same of a run of characters as UTF-8.
+    /// The same for a run of characters as UTF-8.
     #[inline]
     fn admits_str(&self, _text: &str) -> bool
         ensures { IsTrue result → list_all (λ c. admits self.now (print c))
@@ -77,7 +77,7 @@ pub trait Admit<A: Allocator> {
         None
     }
 
-    /// The same of the operating system command of this text, whose parts are between `;`.
+    /// The same for the operating system command of this text, whose parts are between `;`.
     #[inline]
     fn admits_command(&self, _text: &[u8]) -> Option<bool>
         ensures { IfSome result (λ b.

@@ -108,7 +108,7 @@ pub(crate) fn group_of_function(function: ControlFunction) -> Group
     group_of_key(function.row().key)
 }
 
-// The same of escape sequences.
+// The same for escape sequences.
 pub(crate) fn group_of_escape_function(function: EscapeFunction) -> Group
     ensures { result ≡ of_escape_function function }
 {

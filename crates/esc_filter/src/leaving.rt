@@ -74,7 +74,7 @@ impl Terminal {
         }
     }
 
-    // The same of a function.
+    // The same for a function.
     fn change_by_escape(&mut self, function: EscapeFunction, control: u8)
         ensures { self.new ≡ after_escape_function function control self.old }
     {

@@ -66,7 +66,7 @@ fn is_clean_link<A: Allocator>(link: &Option<Hyperlink<A>>) -> bool
     }
 }
 
-// The same of keys and values.
+// The same for keys and values.
 fn are_clean_pairs<A: Allocator>(mut pairs: Iter<'_, A>) -> bool
     ensures { result ≡ list_all is_clean_pair pairs.entry }
 {
@@ -78,14 +78,14 @@ fn are_clean_pairs<A: Allocator>(mut pairs: Iter<'_, A>) -> bool
     true
 }
 
-// The same of a key and a value.
+// The same for a key and a value.
 fn is_clean_pair(key: &str, value: &str) -> bool
     ensures { result ≡ is_clean_pair (key.now, value.now) }
 {
     is_clean(key) && is_clean(value)
 }
 
-// The same of a text.
+// The same for a text.
 fn is_clean(text: &str) -> bool
     ensures { result ≡ is_clean text.now }
 {

@@ -70,8 +70,8 @@ fn plain_length<A: Allocator>(bytes: &[u8], renditions: bool) -> usize
     end
 }
 
-// The length of the run of characters from U+00A0 on that do not deceive. It is out of the way of
-// the code for ASCII.
+// The length of the run of characters from U+00A0 on that do not deceive. It is apart from the code
+// for ASCII.
 #[inline(never)]
 fn wide_run(bytes: &[u8]) -> usize
     ensures few { result ≤ length bytes.now }
@@ -113,7 +113,7 @@ fn is_plain_two(a: u8, b: u8) -> bool
     lies_from(0xc3, 0xd7, a) && a != 0xcd && lies_from(0x80, 0xbf, b)
 }
 
-// The same of U+2080 to U+313F and U+4000 to U+CFFF.
+// The same for U+2080 to U+313F and U+4000 to U+CFFF.
 #[inline(always)]
 fn is_plain_three(a: u8, b: u8, c: u8) -> bool
     ensures { result ≡ is_plain_three a b c }
@@ -129,7 +129,7 @@ fn is_plain_three(a: u8, b: u8, c: u8) -> bool
     }
 }
 
-// The same of any other character.
+// The same for any other character.
 #[inline(never)]
 fn other_ahead(bytes: &[u8]) -> usize
     ensures few { result ≤ length bytes.now }

@@ -123,7 +123,7 @@ impl<A: Allocator> Admit<A> for Policy {
     }
 }
 
-// Whether the policy admits the action, out of the way of the code for text.
+// Whether the policy admits the action, apart from the code for text.
 #[inline(never)]
 fn is_admitted<A: Allocator>(policy: &Policy, action: &Action<A>) -> bool
     ensures { result ≡ admits policy.now (value_of action.now) }

@@ -60,7 +60,7 @@ pub(crate) struct Terminal {
 pub(crate) enum Change {
     /// It sets or resets modes of ECMA-48 (SM, RM).
     Mode(bool),
-    /// The same of private modes (DECSET, DECRST).
+    /// The same for private modes (DECSET, DECRST).
     PrivateMode(bool),
     /// It keeps private modes (XTSAVE).
     Keep,

@@ -123,7 +123,7 @@ impl<A: Allocator> Written<A> {
         }
     }
 
-    /// The same of a control, since it is a carriage return.
+    /// The same for a control, since it is a carriage return.
     #[inline]
     pub fn drops_control(&self, code: ControlCode) -> bool
         ensures { IsTrue result

@@ -23,7 +23,7 @@ abbrev pub next_class : Bool → Option Class → List ℕ
 next_class first None = []
 next_class first (Some c) = class_opener first ++ class_name c
 
--- the same of the attribute `style`
+-- the same for the attribute `style`
 abbrev pub begun_styles : List Style → List ℕ
 begun_styles [] = []
 begun_styles (s ∷ ss) = codes " style=\"" ++ styles_text (s ∷ ss)

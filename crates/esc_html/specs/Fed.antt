@@ -77,7 +77,7 @@ added_by w = text_of w.page
 abbrev pub closing_of : {A : Type 0} → HtmlWriter A → List ℕ
 closing_of w = html_text (closed (state_of w.page))
 
--- this holds of each stream that the writer may have been fed
+-- this holds for each stream that the writer may have been fed
 abbrev pub After : {A : Type 0} → HtmlWriter A → (ℕ → Layout → List ℕ → Type 0) → Type 0
 After w C = (limit : ℕ) (y : Layout) (s : List ℕ) → HasConsumed limit y s w → C limit y s
 

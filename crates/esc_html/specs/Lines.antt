@@ -49,7 +49,7 @@ abbrev pub open_after : Bool → List ℕ → Bool
 open_after begun [] = begun
 open_after begun (b ∷ t) = open_after (not (b == 0x0a)) t
 
--- the same of a text that has ended: the last line too is closed
+-- the same for a text that has ended: the last line too is closed
 abbrev pub in_lines : ℕ → List ℕ → List ℕ
 in_lines n t = lined_page n false t ++ end_if (open_after false t)
 

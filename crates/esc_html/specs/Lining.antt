@@ -12,7 +12,7 @@ pub record WasLined {A : Type 0} (first : ℕ) (s : List ℕ) (w : LineWriter A)
 abbrev pub added_in : {A : Type 0} → LineWriter A → List ℕ
 added_in w = string_bytes w.text
 
--- this holds of each text that it may have been given
+-- this holds for each text that it may have been given
 abbrev pub AfterLines : {A : Type 0} → LineWriter A → (ℕ → List ℕ → Type 0) → Type 0
 AfterLines w C = (first : ℕ) (s : List ℕ) → WasLined first s w → C first s
 

@@ -28,7 +28,7 @@ pub(crate) fn lead_by<A: Allocator>(
     }
 }
 
-// The same of the parts of a command that has no other reading.
+// The same for the parts of a command that has no other reading.
 fn lead_of<A: Allocator>(
     parts: Items<Items<u8, A>, A>,
 ) -> Result<Option<Option<Text<A>>>, AllocError>

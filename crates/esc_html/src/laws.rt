@@ -36,8 +36,8 @@ pub fn page_parts_close()
         → closes [] (tokens (html_text ps)) ≡ true }
 {}
 
-/// The UTF-8 of the text of parts is the text of the parts' UTF-8: so the laws hold of the
-/// characters that a browser decodes, as of the bytes that are written.
+/// The UTF-8 of the text of parts is the text of the parts' UTF-8: so the laws hold for the
+/// characters that a browser decodes, as for the bytes that are written.
 pub fn page_parts_encoded()
     ensures { (ps : List PagePart) → encode_utf8_all (html_text ps) ≡ html_text (map encoded ps) }
 {}

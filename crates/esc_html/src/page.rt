@@ -261,7 +261,7 @@ impl<A: Allocator> Page<A> {
         self.html.push_bare(run)
     }
 
-    // The same of such a run that is printed, in which there is no DEL.
+    // The same for such a run that is printed, in which there is no DEL.
     fn take_bare(&mut self, run: &str) -> Result<(), AllocError>
         requires { list_all is_bare run.now ≡ true }
         ensures ok { OnOk result (self.new ≡ with_text self.old (filter is_visible run.now)) }

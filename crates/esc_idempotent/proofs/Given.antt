@@ -15,7 +15,7 @@ use Rattle.esc_filter.specs.declared.terminal.Terminal.{Terminal}
 use Rattle.esc_filter.proofs.ByLine.DataHasNoFeed.{both}
 
 module _ {A : Type 0} (p : Value A → Bool) where
-  -- it holds of each of these
+  -- it holds for each of these
   pub record OfEach : Type 0 where
     pub main : (p (private_mode 47 0x6c) ≡ true) × (p (private_mode 1047 0x6c) ≡ true)
         × (p (private_mode 1049 0x6c) ≡ true)

@@ -47,7 +47,7 @@ IsKept A limit s = meaning_within {A = A} limit s ≡ meaning s
 abbrev pub read_of_line : List ℕ → List ℕ
 read_of_line l = if ends_line false l then body (content l) ++ 0x0a ∷ [] else l
 
--- the same of each of these lines
+-- the same for each of these lines
 abbrev pub AreKept : Type 0 → ℕ → List (List ℕ) → Type 0
 AreKept A limit [] = Unit {0}
 AreKept A limit (l ∷ ls) = IsKept A (Some limit) (read_of_line l) × AreKept A limit ls

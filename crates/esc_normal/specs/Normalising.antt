@@ -25,8 +25,8 @@ IsBroken n = IsBrokenParser n.parser
 abbrev pub added_by : {A : Type 0} → Normaliser A → List ℕ
 added_by n = n.spell.text
 
--- this holds of each limit that the normaliser may have, and of each stream that it may have been
--- fed
+-- this holds for each limit that the normaliser may have, and for each stream that it may have
+-- been fed
 abbrev pub After : {A : Type 0} → Normaliser A → (Option ℕ → List ℕ → Type 0) → Type 0
 After n C = (limit : Option ℕ) (s : List ℕ) → HasConsumed limit s n → C limit s
 

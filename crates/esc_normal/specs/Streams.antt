@@ -20,7 +20,7 @@ abbrev pub HasFiltered : {R W : Type 0} → Reader R → Writer W → (List ℕ 
 HasFiltered R W Is reader writer =
     (s : List ℕ) × (t : List ℕ) × Reads R s reader × Writes W t writer × Is s t
 
--- the same of at least n bytes
+-- the same for at least n bytes
 abbrev pub HasFilteredAtLeast : {R W : Type 0} → Reader R → Writer W → ℕ
     → (List ℕ → List ℕ → Type 0) → Borrowed R → Borrowed W → Type 0
 HasFilteredAtLeast R W n Is reader writer =
@@ -70,12 +70,12 @@ pub record Filters {R W X : Type 0} (Rd : Reader R) (Wr : Writer W) (m : List �
 
 -- ---- a filter that is fed
 
--- this holds of the texts that the filter gives, and of the stream that it was fed
+-- this holds for the texts that the filter gives, and for the stream that it was fed
 abbrev pub Given : {F A : Type 0} → Feeder F A → F
     → ((List ℕ → List ℕ) → (List ℕ → List ℕ) → List ℕ → Type 0) → Type 0
 Given V f C = (m c : List ℕ → List ℕ) (s : List ℕ) → V.gives f m c s → C m c s
 
--- this holds of the texts that the filter gives, which was fed nothing; nothing has no text, and a
+-- this holds for the texts that the filter gives, which was fed nothing; nothing has no text, and a
 -- stream that has ended has the text of one that goes on, and more
 abbrev pub New : {F A : Type 0} → Feeder F A → F
     → ((List ℕ → List ℕ) → (List ℕ → List ℕ) → Type 0) → Type 0

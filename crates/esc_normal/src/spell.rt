@@ -61,7 +61,7 @@ impl<A: Allocator> TextSink<A> {
         }
     }
 
-    // Appends the text of an action, out of the way of the code that takes characters.
+    // Appends the text of an action, apart from the code that takes characters.
     #[inline(never)]
     fn append(&mut self, action: Action<A>) -> Result<(), AllocError>
         ensures ok { OnOk result

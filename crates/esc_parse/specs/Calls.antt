@@ -18,7 +18,7 @@ use Rattle.esc_parse.specs.declared.parser.Parser.{Parser}
 use Rattle.esc_parse.specs.declared.sink.Sink.{Ghosts as Sinks}
 use Rattle.fallible_alloc.specs.Refusals.{Refused}
 
--- this holds of each stream that the parser may have been fed, under its limit
+-- this holds for each stream that the parser may have been fed, under its limit
 abbrev pub After : {A : Type 0} → Parser A → (Option ℕ → List ℕ → Type 0) → Type 0
 After p P = (limit : Option ℕ) (s : List ℕ) → ParserHasConsumedWithin limit s p → P limit s
 

@@ -140,7 +140,7 @@ pub trait Sink<T: ActionShape> {
         Ok(false)
     }
 
-    /// The same of an operating system command, from its text, whose parts are between `;`.
+    /// The same for an operating system command, from its text, whose parts are between `;`.
     #[inline]
     fn receive_command(&mut self, _text: &[u8]) -> Result<bool, AllocError>
         requires { MayReceiveBy T.is_command is_ready may takes self.old (parts_of _text.now ∷ []) }

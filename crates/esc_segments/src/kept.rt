@@ -47,7 +47,7 @@ fn keep_unit<A: Allocator>(kept: &mut Vec<u8, A>, text: &[u8]) -> Result<usize, 
     }
 }
 
-// The same of a sequence of UTF-8.
+// The same for a sequence of UTF-8.
 fn keep_sequence<A: Allocator>(kept: &mut Vec<u8, A>, text: &[u8]) -> Result<usize, AllocError>
     requires { HasLead 0 0xc2 0xf4 text.now }
     ensures kept { (after t : List ℕ) → IsLeft kept.old.items text.now after t

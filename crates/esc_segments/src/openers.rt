@@ -25,7 +25,7 @@ fn opener_len(bytes: &[u8]) -> usize
     }
 }
 
-// The same of an opener that ESC begins: up to the letter after noise.
+// The same for an opener that ESC begins: up to the letter after noise.
 fn escape_opener_len(bytes: &[u8]) -> usize
     requires { 0 < length bytes.now }
     ensures len { (n body : List ℕ) (letter : ℕ) → AllOf is_noise n

@@ -73,7 +73,7 @@ unfolding is_csi_body
 marked_is [] = refl
 marked_is (b ∷ x) = marked_by b x (is_private_prefix b)
 
--- the same of parameters
+-- the same for parameters
 abbrev param_intermediates : List CsiParam → Bool
 param_intermediates [] = true
 param_intermediates (Integer n ∷ es) = false

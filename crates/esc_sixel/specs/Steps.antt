@@ -49,7 +49,7 @@ abbrev pub open_by : Open → Class → ℕ → Open
 open_by Closed c b = opened_command c
 open_by (In m r) c b = if in_run c then In m (r ++ b ∷ []) else opened_command c
 
--- the same of bytes
+-- the same for bytes
 abbrev pub closed_of : Open → List ℕ → List Item
 closed_of o [] = []
 closed_of o (b ∷ bs) = closed_by o (class_of b) b ++ closed_of (open_by o (class_of b) b) bs

@@ -6,7 +6,7 @@ use Rattle.esc_sixel.specs.declared.builder.SixelBuilder.{SixelBuilder}
 use Rattle.esc_sixel.specs.declared.sixel.Sixel.{Sixel}
 use Rattle.esc_sixel.specs.declared.sixel_data.SixelData.{SixelData}
 
--- These bytes, one at least, come outside a command.
+-- These bytes, at least one, come outside a command.
 pub record AreOutside {A : Type 0} (p : SixelBuilder A) (rest : List ℕ) : Type 0 where
   pub some : 0 < length rest
   pub closed : p.introducer ≡ None
@@ -16,7 +16,7 @@ pub record ComesOutside {A : Type 0} (p : SixelBuilder A) (b : ℕ) (rest : List
   pub outside : AreOutside p rest
   pub first : get_or rest 0 0 ≡ b
 
--- The first n of these bytes, one at least, make q of p.
+-- The first n of these bytes, at least one, make q of p.
 pub record TakesFirst {A : Type 0} (p : SixelBuilder A) (rest : List ℕ) (n : ℕ)
     (q : SixelBuilder A) : Type 0 where
   pub some : 0 < n

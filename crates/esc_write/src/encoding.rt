@@ -125,7 +125,7 @@ fn write_next<A: Allocator>(
     write_other(text, follows_string, action)
 }
 
-// The same, out of the way of the code that writes characters.
+// The same, apart from the code that writes characters.
 #[inline(never)]
 fn write_other<A: Allocator>(
     text: &mut Text<A>,

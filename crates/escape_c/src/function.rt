@@ -37,7 +37,7 @@ pub extern "C" fn escape_stream_escape_function(
     function::escape_function(intermediate, last, out)
 }
 
-/// The same of a C0 control, 00 to 1F (hexadecimal), or DEL, 7F.
+/// The same for a C0 control, 00 to 1F (hexadecimal), or DEL, 7F.
 #[unsafe(no_mangle)]
 pub extern "C" fn escape_stream_control_function(code: u8, out: &mut FunctionRow) -> bool
     ensures { SaysControl (control_of code) out.new result }

@@ -33,7 +33,7 @@ pub extern "C" fn escape_stream_dcs_function(
     string_name::dcs_function((private_prefix, intermediate), last, params, data, out)
 }
 
-/// The same of the application program command of this text, which lies between `ESC _` and its
+/// The same for the application program command of this text, which lies between `ESC _` and its
 /// terminator.
 #[unsafe(no_mangle)]
 pub extern "C" fn escape_stream_apc_function(text: &[u8], out: &mut StringRow) -> bool
@@ -42,7 +42,7 @@ pub extern "C" fn escape_stream_apc_function(text: &[u8], out: &mut StringRow) -
     string_name::apc_function(text, out)
 }
 
-/// The same of the row in this place, from 0 on.
+/// The same for the row in this place, from 0 on.
 #[unsafe(no_mangle)]
 pub extern "C" fn escape_stream_string_row(row: usize, out: &mut StringRow) -> bool
     ensures { SaysString (place_below row) out.new result }
@@ -50,7 +50,7 @@ pub extern "C" fn escape_stream_string_row(row: usize, out: &mut StringRow) -> b
     string_name::string_row(row, out)
 }
 
-/// The same of the string of this name.
+/// The same for the string of this name.
 #[unsafe(no_mangle)]
 pub extern "C" fn escape_stream_string_named(name: &[u8], out: &mut StringRow) -> bool
     ensures { SaysString (place_named name.now) out.new result }

@@ -310,7 +310,7 @@ module _ {S A : Type 0} (R : S → ActionRef (Action A) → S → Type 0) where
         subst (λ l. StopsAt ⊥ (By IsIt (Lends R)) (By IsIt (LendsNot Q)) p l q) (sym one)
         (inr (inl (a, is, (r, ends_one, refused))))
 
-  -- the same of a call that begins and ends with no character begun
+  -- the same for a call that begins and ends with no character begun
   module _ (p q : BorrowAdapter S) (vs : List (Value A)) (sink last : S) (first : p.sink ≡ sink)
       (none : p.begun ≡ []) (after : last ≡ q.sink) (done : q.begun ≡ []) where
     pub gets_lent : FoldsTo (At value_of (Lends R)) p vs q → Gets R sink vs last

@@ -46,7 +46,7 @@ pub(crate) fn cut_alone(code: ControlCode) -> bool
     is_lone_control(code.as_char())
 }
 
-// The same of its character.
+// The same for its character.
 fn is_lone_control(c: char) -> bool
     ensures { result ≡ is_lone_control c }
 {

@@ -91,7 +91,7 @@ fn escape_words(function: EscapeFunction) -> &'static str {
 // The words for a set of characters that no table has.
 const OTHER: &str = "another character set";
 
-// The same of controls.
+// The same for controls.
 const OTHER_CONTROLS: &str = "another set of controls";
 
 // The sets, one of which a function designates, and the words for any other.

@@ -17,7 +17,7 @@ use dump_page::Phrase;
 enum Kind {
     // A number; any other text is quoted.
     Number,
-    // The same of hundredths.
+    // The same for hundredths.
     Percent,
     // A text.
     Text,

@@ -3,8 +3,8 @@ use Rattle.std.specs.Prelude.{ℕ, ◌≡◌, List, []}
 use Rattle.esc_decode.specs.Decodings.{OnlyAdds}
 use Rattle.esc_normal.specs.declared.feeding.StreamFilter.{Ghosts as Feeder}
 
--- this holds of the texts that a filter gives, which was fed nothing; nothing has no text, and more
--- of a stream only adds to its text
+-- this holds for the texts that a filter gives, which was fed nothing; nothing has no text, and
+-- more of a stream only adds to its text
 abbrev pub NewAdding : {F A : Type 0} → Feeder F A → F
     → ((List ℕ → List ℕ) → (List ℕ → List ℕ) → Type 0) → Type 0
 NewAdding V f C = (m c : List ℕ → List ℕ) → V.gives f m c [] → m [] ≡ [] → OnlyAdds m c → C m c

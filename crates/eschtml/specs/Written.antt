@@ -87,7 +87,7 @@ abbrev pub going_in : Type 0 → Bool → ℕ → Bool → List ℕ → List ℕ
 going_in A shows limit moves s =
     if shows then joined (revealed_as {A = A} Reversed false limit (is_kept moves) s) else s
 
--- the same of one that has ended
+-- the same for one that has ended
 abbrev pub whole_in : Type 0 → Bool → ℕ → Bool → List ℕ → List ℕ
 whole_in A shows limit moves s =
     if shows then joined (revealed_whole_as {A = A} Reversed false limit (is_kept moves) s) else s

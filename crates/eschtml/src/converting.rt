@@ -378,7 +378,7 @@ impl<'a, W: Write, E: Write> Converting<'a, W, E> {
         self.note_kind(name, ended, others, "of another kind or size")
     }
 
-    // The same of so many images of this kind.
+    // The same for so many images of this kind.
     fn note_kind(&mut self, name: &str, ended: Ended, count: u64, kind: &'static str) -> Ended {
         if count == 0 || ended != Ended::Whole || self.options.shows {
             return ended;

@@ -148,7 +148,7 @@ fn push_plain<A: Allocator>(
     Ok((0, run))
 }
 
-// The same of the first byte.
+// The same for the first byte.
 fn push_first<A: Allocator>(
     text: &mut Vec<u8, A>,
     held: usize,
@@ -177,7 +177,7 @@ fn run_of(bytes: &[u8]) -> usize
     }
 }
 
-// The same of one byte.
+// The same for one byte.
 fn push_one<A: Allocator>(text: &mut Vec<u8, A>, held: usize, byte: u8) -> Result<usize, AllocError>
     ensures ok { IfOk result (λ k. (text.new.items ≡ text.old.items ++ gone held byte)
         × (k ≡ next_held held byte)) }

@@ -148,7 +148,7 @@ fn wrong_request_of<'a>(
     }
 }
 
-// The same of an action that is made now.
+// The same for an action that is made now.
 fn wrong_request_of_made(heap: &Refusing<Global>, what: Made, wanted: bool) -> Option<u64> {
     heap.refuse_at(0);
     let made = action_of(heap, what);

@@ -178,7 +178,7 @@ fn are_read_faults(alloc: Global, stream: &[u8], wanted: &str) -> bool {
     is_right
 }
 
-// The same of a read with this number.
+// The same for a read with this number.
 fn is_read_fault(alloc: Global, stream: &[u8], at: usize, wanted: &str) -> bool {
     let reader = byte_by_byte(stream, at);
     let (ending, text) = run(alloc, reader, Vec::new(alloc), Policy::All);
@@ -195,7 +195,7 @@ fn are_write_faults(alloc: Global, stream: &[u8], wanted: &str) -> bool {
     is_right
 }
 
-// The same of a write after this text.
+// The same for a write after this text.
 fn is_write_fault(alloc: Global, stream: &[u8], wanted: &[u8]) -> bool {
     let writer = FixedWriter::new(64, 1, wanted.len().saturating_add(1));
     let (ending, held) = run(alloc, stream, writer, Policy::All);

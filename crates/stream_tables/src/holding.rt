@@ -60,7 +60,7 @@ fn does_hold_alone(alloc: Global, name: &str) -> bool {
     }
 }
 
-// The same of calls through `Watched`.
+// The same for calls through `Watched`.
 fn is_passed_on(alloc: Global, name: &str) -> bool {
     match name {
         "watched-reader" => is_reader_passed_on(),

@@ -116,7 +116,7 @@ pub fn is_read_alike(alloc: Global, bytes: &[u8]) -> bool {
     is_right
 }
 
-// The same of these bytes with those that come next.
+// The same for these bytes with those that come next.
 fn is_alike_before(alloc: Global, bytes: &[u8], next: &[u8]) -> bool {
     match joined(alloc, bytes, next) {
         Ok(stream) => {

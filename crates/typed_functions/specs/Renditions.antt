@@ -157,7 +157,7 @@ normal_by (Some n) r = number n ∷ []
 normal_by None r = more_entries r
 
 -- One number, if one asks for it, and 0 for a reset; `4:3` to `4:5`; and `38;5;n`, `38;2;r;g;b` and
--- the same of 48. After 58 there are colons, since a terminal that does not know them would take
+-- the same for 48. After 58 there are colons, since a terminal that does not know them would take
 -- the numbers after `;` for renditions.
 abbrev pub normal_params : Rendition → List CsiParam
 normal_params r = normal_by (number_of r) r

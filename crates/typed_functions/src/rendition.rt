@@ -167,7 +167,7 @@ fn underline_number(kind: Underline) -> u8
 }
 
 /// Writes the parameters that ask for it, in one normal spelling: one number, if one asks for it,
-/// and 0 for a reset; `4:3` to `4:5`; `38;5;n` and `38;2;r;g;b`, and the same of 48; `58:5:n` and
+/// and 0 for a reset; `4:3` to `4:5`; `38;5;n` and `38;2;r;g;b`, and the same for 48; `58:5:n` and
 /// `58:2:r:g:b`. Several renditions are written with `;` between them, after `ESC [` and before
 /// `m`. If it returns `Ok`, all of it was written.
 impl fmt::Display for Rendition {

@@ -125,7 +125,7 @@ pub fn has_stray(before: Option<char>, text: &str) -> bool
     }
 }
 
-// The same of a text in which some may deceive.
+// The same for a text in which some may deceive.
 fn is_some_stray(before: Option<char>, text: &str) -> bool
     ensures { result ≡ has_stray before (chars text.now) }
 {

@@ -35,7 +35,7 @@ fn has_hint(bytes: &[u8]) -> bool
     block_has_hint(&bytes[last..])
 }
 
-// The same of a block: without branches, so that the compiler compares 16 bytes at once.
+// The same for a block: without branches, so that the compiler compares 16 bytes at once.
 #[inline(always)]
 fn block_has_hint(block: &[u8]) -> bool
     requires { length block.now ≡ 33 }

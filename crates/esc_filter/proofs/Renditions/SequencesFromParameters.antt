@@ -247,7 +247,7 @@ module _ {P A : Type 0} (allows : P → Value A → Bool) where
       (record p { written = s }))
   refused_taken r vs p s t = on_err_weaker r (one_refused vs p s) t
 
-  -- the same of a command
+  -- the same for a command
   pub command_passes : {E : Type 0} (r : Result Bool E) (ps : List (List ℕ)) (p : Passing P A)
       (s : Written A)
       → allows p.policy.now (osc (command_meant ps)) ≡ true

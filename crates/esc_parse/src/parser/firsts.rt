@@ -210,8 +210,8 @@ impl<A: Allocator + Copy> Parser<A> {
         }
     }
 
-    // The same, in the caller's list, which may have no room yet, out of the way of the code that
-    // appends one character.
+    // The same, in the caller's list, which may have no room yet, apart from the code that appends
+    // one character.
     #[inline(never)]
     fn firsts_of(
         &mut self,
