@@ -13,11 +13,12 @@ use std::alloc::Allocator;
 
 /// The actions of a stream that comes in these chunks, whatever the chunks are.
 ///
-/// The clause `headline` states all that this crate promises of reading and writing. While no
-/// request for memory is refused, the call returns the actions; the stream has exactly one cut into
-/// segments; these actions are the readings of the segments, in order; each is writable, but for
-/// four exceptions; and if the stream is the text of a writable list, they are the list's normal
-/// list, which has the same text.
+/// The clause `returned` has no premise. It says of each list that the call returns: the stream has
+/// exactly one cut into segments; the actions are the readings of the segments, in order; each is
+/// writable, but for four exceptions; and if the stream is the text of a writable list, they are
+/// the list's normal list, which has the same text. The clause `headline` adds that the call
+/// returns a list while no request for memory is refused. So the two say in one statement how this
+/// crate reads and writes.
 ///
 /// `ParseError::Memory` says that a request for memory was refused; the actions so far are dropped.
 pub fn parse_chunks<A: Allocator + Copy>(
@@ -26,11 +27,11 @@ pub fn parse_chunks<A: Allocator + Copy>(
 ) -> Result<Vec<Action<A>, A>, ParseError>
     ensures given { IfOk result (λ v.
         map value_of v.items ≡ meaning (flat_map (λ p. p.now) input_chunks.now)) }
+    ensures returned { IfOk result (λ v.
+        Headline (flat_map (λ p. p.now) input_chunks.now) (map value_of v.items)) }
     ensures headline { (Refused A → ⊥)
         → IsOkAnd result (λ v. Headline (flat_map (λ p. p.now) input_chunks.now)
         (map value_of v.items)) }
-    ensures returned { IfOk result (λ v.
-        Headline (flat_map (λ p. p.now) input_chunks.now) (map value_of v.items)) }
     ensures refused { IfErr result (λ e. (e ≡ ParseError.Memory) × Refused A) }
 {
     laws::headline::<A>();
