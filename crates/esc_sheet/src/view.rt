@@ -22,7 +22,7 @@ pub struct View<'a> {
 
 impl<'a> View<'a> {
     /// The cells of a row, from 0 on.
-    pub(crate) fn row(&self, at: u16) -> &'a [Cell] {
+    pub fn row(&self, at: u16) -> &'a [Cell] {
         self.screen.row(at as usize)
     }
 
@@ -38,6 +38,11 @@ impl<'a> View<'a> {
     /// How a cell looks.
     pub(crate) fn look_of(&self, cell: &Cell) -> Look {
         self.seen().look_of(cell)
+    }
+
+    /// How cells look that have the look of this number.
+    pub fn look_at(&self, number: u16) -> Look {
+        self.seen().look_at(number)
     }
 
     /// Where a cell leads, if it does.

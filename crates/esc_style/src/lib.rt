@@ -15,6 +15,7 @@
 pub mod class;
 pub mod color;
 pub mod look;
+pub mod palettes;
 pub mod style;
 
 pub use class::Class;

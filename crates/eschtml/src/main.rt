@@ -12,7 +12,6 @@ mod lined;
 mod lines;
 mod options;
 mod page;
-mod palettes;
 mod piped;
 mod stamp;
 mod stream;

@@ -1,9 +1,9 @@
 //! The task that the program's words ask for.
 
-use crate::palettes::{PALETTES, Palette};
 use command_line::{Apart, Found, Given, Known, Takes, Wrong, read};
 use esc_decode::{ByteOrder, CodePage, ENCODINGS, Encoding, encoding_of, order_of, page_of};
 use esc_html::Layout;
+use esc_style::palettes::{PALETTES, Palette};
 use line_collapse::COLUMNS;
 use page_input::Cut;
 use std::alloc::Global;

@@ -1,10 +1,10 @@
 //! The text before and after a stream in a whole page.
 
 use crate::options::{Options, Theme};
-use crate::palettes::Palette;
 use crate::strings::Lost;
 use crate::style::{push_page_style, push_style};
 use esc_html::push_text;
+use esc_style::palettes::Palette;
 use page_input::Mark;
 use std::alloc::{AllocError, Global};
 

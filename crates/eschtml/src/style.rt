@@ -1,8 +1,8 @@
 //! The style sheet.
 
 use crate::options::Theme;
-use crate::palettes::{Palette, Rgb, Scheme};
 use esc_html::{Style, is_deep, palette};
+use esc_style::palettes::{Palette, Rgb, Scheme};
 use esc_values::RgbColor;
 use std::alloc::AllocError;
 use std::str;

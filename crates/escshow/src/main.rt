@@ -7,11 +7,13 @@ mod display;
 mod fault;
 mod frames;
 mod html;
+mod ink;
 mod options;
 mod reading;
 mod recorded;
 mod seconds;
 mod showing;
+mod svg;
 
 use atomic_file::{NewFile, Output};
 use command_line::{
@@ -27,9 +29,9 @@ use std::io::Write;
 use std::process::ExitCode;
 
 const USAGE: &str = "\
-usage: escshow [--size columnsxrows] [--log] [--newline] [--color] [--html] [--json] [--cast] \
-[--at seconds] [--every seconds] [--diff] [-o|--output file] [-h|--help] [-V|--version] [--] \
-[FILE..]";
+usage: escshow [--size columnsxrows] [--log] [--newline] [--color] [--html] [--svg] [--json] \
+[--cast] [--at seconds] [--every seconds] [--diff] [-o|--output file] [-h|--help] [-V|--version] \
+[--] [FILE..]";
 
 const HELP: &str = "\
 Prints the screen that a terminal shows at the end of each FILE, or of standard input, as rows of
@@ -42,6 +44,7 @@ text.
   --newline       takes a line feed to the first column too, as in a file of text (the mode LNM)
   --color         writes the looks of characters too, and links, as control sequences
   --html          writes a page of HTML in which nothing comes alive, with their looks
+  --svg           writes a picture (SVG) of the screen of one FILE
   --json          writes an object of JSON: the cells with their looks, the cursor, the title, links
   --cast          takes each FILE as a recording of asciinema, version 2 or 3
   --at seconds    shows the screen of a recording at this time, as 12.5, and not at its end

@@ -12,6 +12,8 @@ pub enum Form {
     Color,
     /// As HTML.
     Html,
+    /// As a picture.
+    Svg,
     /// As an object of JSON.
     Json,
 }
@@ -108,6 +110,11 @@ const KNOWN: &[Known] = &[
         takes: Takes::Nothing,
     },
     Known {
+        name: "--svg",
+        letter: "",
+        takes: Takes::Nothing,
+    },
+    Known {
         name: "--json",
         letter: "",
         takes: Takes::Nothing,
@@ -176,26 +183,36 @@ fn limited(count: u64) -> u16 {
 }
 
 impl Options {
-    // Takes --log: an object of JSON is one of a screen alone.
+    // Takes --log: an object of JSON, and a picture, are of a screen alone.
     fn take_log(&mut self) {
         self.is_log = true;
         self.every = None;
-        if self.form == Form::Json {
+        if self.form == Form::Json || self.form == Form::Svg {
             self.form = Form::Text;
         }
     }
 
-    // Takes --every: the lines of a recording come once.
+    // Takes --every: the lines of a recording come once, and a picture is of one screen.
     fn take_every(&mut self, seconds: f64) {
         self.is_cast = true;
         self.is_log = false;
         self.every = Some(seconds);
+        if self.form == Form::Svg {
+            self.form = Form::Text;
+        }
     }
 
     // Takes --diff: one screen of each stream is compared.
     fn take_diff(&mut self) {
         self.is_log = false;
         self.every = None;
+    }
+
+    // Takes --svg.
+    fn take_svg(&mut self) {
+        self.is_log = false;
+        self.every = None;
+        self.form = Form::Svg;
     }
 
     // Takes --json.
@@ -236,7 +253,8 @@ impl<'a> Task<'a> {
         }
         match task.kind {
             Kind::Compare => task.with_two_files(),
-            Kind::Show | Kind::Help | Kind::Version => Ok(task),
+            Kind::Show => task.with_one_picture(),
+            Kind::Help | Kind::Version => Ok(task),
         }
     }
 
@@ -248,6 +266,7 @@ impl<'a> Task<'a> {
             "--newline" => self.options.has_new_lines = true,
             "--color" => self.options.form = Form::Color,
             "--html" => self.options.form = Form::Html,
+            "--svg" => self.options.take_svg(),
             "--json" => self.options.take_json(),
             "--cast" => self.options.is_cast = true,
             "--at" => {
@@ -262,6 +281,16 @@ impl<'a> Task<'a> {
             _ => {}
         }
         Ok(())
+    }
+
+    // The task, unless it asks for pictures of two files: an output is one picture.
+    fn with_one_picture(self) -> Result<Task<'a>, Wrong<'a>> {
+        match self.files.as_slice() {
+            [_, second, ..] if self.options.form == Form::Svg => {
+                Err(Wrong::Value("--svg", "second file", *second, None))
+            }
+            _ => Ok(self),
+        }
     }
 
     // The task, if it has two files.

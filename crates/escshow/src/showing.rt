@@ -10,6 +10,7 @@ use crate::html::{HEAD, html_of};
 use crate::options::{Form, Options};
 use crate::reading::display_of;
 use crate::seconds::heading_of;
+use crate::svg::picture_of;
 use command_line::{Ended, Reason, Work};
 use esc_sheet::{Sheet, View, push_object, push_rows};
 use esc_terminal::Terminal;
@@ -52,9 +53,18 @@ impl<'a, W: Write, E: Write> Showing<'a, W, E> {
         if let Some(log) = &display.log {
             return self.write_sheet(log.sheet());
         }
+        if self.options.form == Form::Svg {
+            return self.write_picture(&display.terminal);
+        }
         self.write_heading(display.time)?;
         let sheet = sheet_of(self.alloc, &display.terminal, self.options.form)?;
         self.write_sheet(&sheet)
+    }
+
+    // Writes the picture of a terminal's screen.
+    fn write_picture(&mut self, terminal: &Terminal) -> Result<(), Fault> {
+        let svg = picture_of(self.alloc, view_of(terminal, true)?)?;
+        print(svg.as_str(), self.output)
     }
 
     // Writes the time of a screen of a recording, if one screen after another is written, other
@@ -62,7 +72,7 @@ impl<'a, W: Write, E: Write> Showing<'a, W, E> {
     fn write_heading(&mut self, time: Option<f64>) -> Result<(), Fault> {
         match (self.options.every, time) {
             (Some(_), Some(time)) => match self.options.form {
-                Form::Json => Ok(()),
+                Form::Json | Form::Svg => Ok(()),
                 Form::Text | Form::Color | Form::Html => {
                     self.write_head()?;
                     let line = heading_of(self.alloc, time)?;
@@ -112,7 +122,7 @@ fn sheet_of(alloc: Global, terminal: &Terminal, form: Form) -> Result<Sheet, All
     match form {
         Form::Json => push_object(&mut sheet, view_of(terminal, true)?)?,
         Form::Text => push_rows(&mut sheet, view_of(terminal, false)?)?,
-        Form::Color | Form::Html => push_rows(&mut sheet, view_of(terminal, true)?)?,
+        Form::Color | Form::Html | Form::Svg => push_rows(&mut sheet, view_of(terminal, true)?)?,
     }
     Ok(sheet)
 }
