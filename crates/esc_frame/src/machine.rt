@@ -8,7 +8,7 @@ mod ground;
 mod osc;
 mod strings;
 
-ghost use Rattle.std.specs.Prelude.{◌≡◌, ◌⊎◌, ◌<◌, ℕ, Option, true, length, take, min, OnOk, IsTrue, ◌↔◌};
+ghost use Rattle.std.specs.Prelude.{◌≡◌, ◌⊎◌, ◌<◌, ◌≤◌, ℕ, Option, None, true, length, min, OnOk, IsTrue, ◌↔◌};
 ghost use Rattle.esc_frame.specs.Classes.{class_of};
 ghost use Rattle.esc_frame.specs.Events.{Awaits};
 ghost use Rattle.esc_frame.specs.Leads.{Unfinished, Holds, kept_open};
@@ -16,8 +16,8 @@ ghost use Rattle.esc_frame.specs.Leads.Unfinished.{Ground};
 ghost use Rattle.esc_frame.specs.Limits.{most};
 ghost use Rattle.esc_frame.specs.Machine.Calls.{Fails, is_outside_text};
 ghost use Rattle.esc_frame.specs.Machine.Prefixes.{prefix_of};
-ghost use Rattle.esc_frame.specs.Machine.Keeping.{Holding};
-ghost use Rattle.esc_frame.specs.Machine.Allowed.{KeptSegment};
+ghost use Rattle.esc_frame.specs.Machine.Keeping.{Holding, HoldingAfter, AfterStill};
+ghost use Rattle.esc_frame.specs.Machine.Allowed.{KeptSegment, KeptAfter};
 ghost use Rattle.esc_frame.specs.Machine.Makes.{Emits, Makes, StaysReady};
 ghost use Rattle.esc_frame.specs.Machine.Moves.{move, unfinished_at_opener, may_grow_in, may_grow_within, after_all, events_all};
 ghost use Rattle.esc_frame.specs.Segments.{Opener};
@@ -28,9 +28,9 @@ use crate::taker::EventSink;
 use crate::unfinished::body::CsiBody;
 use crate::unfinished::header::DcsHeader;
 use crate::unfinished::intermediates::Intermediates;
-use crate::unfinished::short::Short;
 use crate::unfinished::store::TextRoom;
 use crate::utf8::sequence::Pending;
+use esc_values::csi_param::CsiParam;
 use std::alloc::{AllocError, Allocator};
 
 /// The error is that the actor refused a call, or that a request for memory was refused.
@@ -68,8 +68,8 @@ pub struct Machine<K: TextRoom, A: Allocator> {
     pub intermediates: Intermediates,
     // the body of a control sequence
     pub body: CsiBody,
-    // the body of a control sequence that is whole in a call's bytes
-    pub short: Short,
+    // the parameters of a control sequence that is whole in a call's bytes
+    pub short: [CsiParam; 32],
     // the header of a DCS, but for its parameter bytes
     pub header: DcsHeader,
     // what is kept of the text of an OSC or APC, or the parameter bytes of the header of a DCS
@@ -91,7 +91,7 @@ impl<K: TextRoom, A: Allocator + Copy> Machine<K, A> {
             pending: Pending::Nothing,
             intermediates: Intermediates::new(),
             body: CsiBody::new(),
-            short: Short::new(),
+            short: [CsiParam::Integer(0); 32],
             header: DcsHeader::new(),
             text,
             alloc,
@@ -103,8 +103,9 @@ impl<K: TextRoom, A: Allocator + Copy> Machine<K, A> {
 impl<K: TextRoom, A: Allocator> Machine<K, A> {
     /// Whether no segment is unfinished.
     pub fn is_ground(&self) -> bool
-        ensures { (limit : Option ℕ) (u : Unfinished) → Holds K.keeps limit self.now u
+        ensures known { (limit : Option ℕ) (u : Unfinished) → Holds K.keeps limit self.now u
             → IsTrue result ↔ (u ≡ Ground) }
+        ensures ground { IsTrue result → Holds K.keeps None self.now Ground }
     {
         match self.state {
             State::Ground => match self.pending {
@@ -206,7 +207,7 @@ impl<K: TextRoom, A: Allocator> Machine<K, A> {
     {
         let mut at = 0;
         while at < bytes.len() {
-            let n = self.take(&bytes[at..], actor)?;
+            let n = self.parse_run(&bytes[at..], actor)?;
             at += n;
         }
         Ok(())
@@ -222,13 +223,47 @@ impl<K: TextRoom, A: Allocator> Machine<K, A> {
         ensures { TakesIn (Holding K.TextRoom self) (Holding K.TextRoom self)
             K.TextRoom V.EventSink result rest.now self actor }
     {
+        if self.is_ground() {
+            return self.first_in_ground(rest, actor);
+        }
         match self.state {
-            State::Ground => match self.pending {
-                Pending::Nothing => self.first_in_ground(rest, actor),
-                Pending::One(_) | Pending::Two(_, _) | Pending::Three(_, _, _) => self.parse_one(
-                    rest, actor,
-                ),
-            },
+            State::Escape => self.parse_in_escape(rest, actor),
+            State::Data => self.parse_one(rest, actor),
+            State::Ground | State::Csi | State::Osc | State::Dcs | State::Ignored | State::Apc =>
+                self.parse_unfinished(rest, actor),
+        }
+    }
+
+    // Takes a prefix of the bytes, at least one, and returns its length.
+    #[inline(always)]
+    fn parse_run<V: EventSink>(&mut self, rest: &[u8], actor: &mut V) -> Result<usize>
+        requires some { 0 < length rest.now }
+        requires ready { MayBeGiven V.EventSink (KeptSegment K.TextRoom self.old)
+            self.old.limit rest.now actor.old }
+        ensures { TakesPart (Holding K.TextRoom self) K.TextRoom V.EventSink result rest.now self
+            actor }
+    {
+        if self.is_ground() {
+            return self.parse_in_ground(rest, actor);
+        }
+        match self.state {
+            State::Escape => self.parse_in_escape(rest, actor),
+            State::Data => self.parse_in_data(rest, actor),
+            State::Ground | State::Csi | State::Osc | State::Dcs | State::Ignored | State::Apc =>
+                self.parse_unfinished(rest, actor),
+        }
+    }
+
+    // The next bytes of a character, a sequence or a string, out of the way of the code for ground.
+    #[inline(never)]
+    fn parse_unfinished<V: EventSink>(&mut self, rest: &[u8], actor: &mut V) -> Result<usize>
+        requires some { 0 < length rest.now }
+        requires ready { MayBeGiven V.EventSink (KeptSegment K.TextRoom self.old)
+            self.old.limit rest.now actor.old }
+        ensures { TakesIn (Holding K.TextRoom self) (Holding K.TextRoom self)
+            K.TextRoom V.EventSink result rest.now self actor }
+    {
+        match self.state {
             State::Csi => self.parse_in_csi(rest, actor),
             State::Osc => match self.pending {
                 Pending::Nothing => self.parse_in_osc(rest, actor),
@@ -238,30 +273,7 @@ impl<K: TextRoom, A: Allocator> Machine<K, A> {
             },
             State::Apc => self.parse_in_apc(rest, actor),
             State::Ignored => self.parse_in_ignored(rest, actor),
-            State::Escape => self.parse_in_escape(rest, actor),
-            State::Dcs | State::Data => self.parse_one(rest, actor),
-        }
-    }
-
-    // Takes a prefix of the bytes, at least one, and returns its length.
-    #[inline(always)]
-    fn take<V: EventSink>(&mut self, rest: &[u8], actor: &mut V) -> Result<usize>
-        requires some { 0 < length rest.now }
-        requires ready { MayBeGiven V.EventSink (KeptSegment K.TextRoom self.old)
-            self.old.limit rest.now actor.old }
-        ensures { TakesPart (Holding K.TextRoom self) K.TextRoom V.EventSink result rest.now self
-            actor }
-    {
-        match self.state {
-            State::Ground => match self.pending {
-                Pending::Nothing => self.parse_in_ground(rest, actor),
-                Pending::One(_) | Pending::Two(_, _) | Pending::Three(_, _, _) => self.parse_one(
-                    rest, actor,
-                ),
-            },
-            State::Data => self.parse_in_data(rest, actor),
-            State::Escape | State::Csi | State::Osc | State::Dcs | State::Ignored | State::Apc =>
-                self.parse_until_event(rest, actor),
+            State::Ground | State::Escape | State::Dcs | State::Data => self.parse_one(rest, actor),
         }
     }
 
@@ -274,7 +286,27 @@ impl<K: TextRoom, A: Allocator> Machine<K, A> {
         ensures { TakesIn (Holding K.TextRoom self) InAny
             K.TextRoom V.EventSink result rest.now self actor }
     {
-        self.step(rest[0], classify(rest[0]), actor)?;
-        Ok(1)
+        self.step_after(rest, 0, actor)
+    }
+
+    /// The byte after a run, so long, that was kept, if there is one.
+    pub fn step_after<V: EventSink>(
+        &mut self,
+        rest: &[u8],
+        run: usize,
+        actor: &mut V,
+    ) -> Result<usize>
+        requires count { (0 < length rest.now) × (run ≤ length rest.now) }
+        requires ready { MayBeGiven V.EventSink (KeptAfter K.TextRoom rest.now run self.old)
+            self.old.limit rest.now actor.old }
+        ensures { TakesIn (HoldingAfter K.TextRoom rest.now run self)
+            (AfterStill self.old.limit rest.now run)
+            K.TextRoom V.EventSink result rest.now self actor }
+    {
+        if run == rest.len() {
+            return Ok(run);
+        }
+        self.step(rest[run], classify(rest[run]), actor)?;
+        Ok(run + 1)
     }
 }

@@ -3,6 +3,7 @@
 pub mod body;
 pub mod count;
 pub mod csi_params;
+pub mod fields;
 pub mod header;
 pub mod intermediates;
 pub mod kept;

@@ -16,7 +16,6 @@ use Rattle.esc_frame.specs.Stream.{events, events_within}
 use Rattle.esc_frame.proofs.Cut.CutExists.{cut_last, last_of, stands}
 use Rattle.esc_frame.proofs.Cut.CutIsUnique.{one_cut}
 use Rattle.esc_frame.proofs.Limit.ShortIsUnlimited.{same_within}
-use Rattle.heapless_parser.specs.Emitted.{queued_of}
 use Rattle.heapless_parser.specs.Growing.{AreShort, most_kept}
 use Rattle.heapless_parser.specs.States.{HasConsumed, KeptIn}
 use Rattle.heapless_parser.specs.Texts.{KeepsBorrowed}

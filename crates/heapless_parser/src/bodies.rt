@@ -13,10 +13,10 @@ ghost use Rattle.heapless_parser.specs.Takes.{AddsToBody, KeepsForm, NotesCsi, T
 
 use crate::escapes::note_noise;
 use crate::event::{CHARACTER, CONTROL, CSI, EscEntry, EscEvent, NONE};
-use crate::fields::put;
 use crate::numbers::{CSI_STATE, MALFORMED, form_of, number_of_form};
 use crate::parser::EscParser;
 use esc_frame::unfinished::csi_params::next_number;
+use esc_frame::unfinished::fields::put;
 use esc_frame::utf8::sequence::lies_from;
 
 const MAX_NUMBER: u64 = 0x7fff_ffff_ffff_ffff;

@@ -16,8 +16,8 @@ use esc_frame::machine::Machine;
 use esc_frame::unfinished::body::CsiBody;
 use esc_frame::unfinished::header::DcsHeader;
 use esc_frame::unfinished::intermediates::Intermediates;
-use esc_frame::unfinished::short::Short;
 use esc_frame::unfinished::store::TextRoom;
+use esc_values::csi_param::CsiParam;
 use std::marker::PhantomData;
 
 #[tactic(auto, using(crate::proofs::KeptState::PartsOfMachine::first_loaded))]
@@ -62,7 +62,7 @@ pub fn load<'a, N: Named>(
         } else {
             CsiBody::new()
         },
-        short: Short::new(),
+        short: [CsiParam::Integer(0); 32],
         header: header_in(parser),
         text: BorrowedText {
             memory,

@@ -8,10 +8,10 @@ ghost use Rattle.heapless_parser.specs.Ahead.{NotesInGround, NotesPlain, NotesQu
 ghost use Rattle.heapless_parser.specs.Asked.{AskedWithin};
 
 use crate::event::{CONTROL, CSI, EscEvent, TEXT};
-use crate::fields::read_body;
 use crate::numbers::GROUND;
 use crate::parser::EscParser;
 use crate::runs::plain_text;
+use esc_frame::unfinished::fields::read_body;
 use esc_frame::utf8::sequence::lies_from;
 
 /// Notes the control, or the short control sequence, whole in the bytes, that comes first in

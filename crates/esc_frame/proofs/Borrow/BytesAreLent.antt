@@ -267,3 +267,24 @@ one_unborrowed (InCsi o x) rest s g = absurd cc
 one_unborrowed (InOsc o ps) rest s g = absurd cc
 one_unborrowed (InApc o d) rest s g = absurd cc
 one_unborrowed _ rest s g = refl
+
+-- ---- a run after which memory does not grow, where all strings can be lent, and a byte after it
+
+no_growth : (v : Unfinished) → may_grow_in v ≡ false → (is_fresh v ≡ true) × (is_string v ≡ false)
+no_growth Ground h = (refl, refl)
+no_growth (Pending f) h = (refl, refl)
+no_growth (InEscape x) h = (refl, refl)
+no_growth (InCsi o x) h = (refl, refl)
+no_growth _ h = absurd cc
+
+pub run_fresh : (u : Unfinished) (rest : List ℕ) (n : ℕ)
+    → (may_grow_in (after_all u (take n rest)) ≡ true → is_borrowable u rest ≡ false)
+    → StaysFresh u rest n × StaysFresh u rest (n + 1)
+run_fresh u rest n w =
+    let v : Unfinished = after_all u (take n rest) in
+    let none : is_borrowable u rest ≡ true → may_grow_in v ≡ false =
+    λ l. no_if (may_grow_in v) (λ g. not_both (is_borrowable u rest) l (w g)) in
+    let here : StaysFresh u rest n = λ l. (no_growth v (none l)).0 in (
+      here,
+      λ l. fresh_more u rest n 1 here (one_fresh v (drop n rest) (no_growth v (none l)).1) l,
+    )

@@ -29,7 +29,7 @@ use Rattle.esc_frame.proofs.Cut.CutAtGround.{to_ground, from_ground}
 use Rattle.esc_frame.proofs.Cut.CutExists.{last_of, cut_last, stands}
 use Rattle.esc_frame.proofs.Cut.FirstSegment.{MayFollow}
 use Rattle.esc_frame.proofs.Borrow.BytesAreLent.{both, no_if, not_both, passes_append}
-use Rattle.esc_frame.proofs.ByteRuns.ManyBytes.{lead_class, two_parts, three_parts, four_parts, osc_sequence}
+use Rattle.esc_frame.proofs.ByteRuns.ManyBytes.{osc_sequence, osc_sequence_passes}
 use Rattle.esc_frame.proofs.Limit.GrowingSegments.{grows, cut_grows}
 use Rattle.esc_frame.proofs.Cut.CutIsUnique.{head_of, one_cut}
 use Rattle.esc_frame.proofs.Emits.EventsAreTheCuts.{after_append}
@@ -207,70 +207,6 @@ apc_pass o e (b ∷ d) h =
       goes_on,
     ) (apc_pass o (e ++ b ∷ []) d k.1)
 
-pass_two : (o : Opener) (ps : List OscUnit) (a b : ℕ) → is_sequence (a ∷ b ∷ []) ≡ true
-    → is_pair (a ∷ b ∷ []) ≡ false
-    → all_pass (InOsc o ps) (a ∷ b ∷ []) ≡ true
-pass_two o ps a b s p = rw (
-  lead_class a (two_parts a b s),
-  s,
-  p,
-  after_by,
-  move,
-  move_inside,
-  goes_on,
-  osc_pending_move,
-  outcome,
-) refl
-
-pass_three : (o : Opener) (ps : List OscUnit) (a b c : ℕ) → is_sequence (a ∷ b ∷ c ∷ []) ≡ true
-    → is_pair (a ∷ b ∷ c ∷ []) ≡ false
-    → all_pass (InOsc o ps) (a ∷ b ∷ c ∷ []) ≡ true
-pass_three o ps a b c s p = let t = three_parts a b c s
-    in rw (
-      lead_class a t.0,
-      t.1,
-      t.2,
-      s,
-      p,
-      after_by,
-      move,
-      move_inside,
-      goes_on,
-      osc_pending_move,
-      outcome,
-    ) refl
-
-pass_four : (o : Opener) (ps : List OscUnit) (a b c d : ℕ) → is_sequence (a ∷ b ∷ c ∷ d ∷ []) ≡ true
-    → is_pair (a ∷ b ∷ c ∷ d ∷ []) ≡ false
-    → all_pass (InOsc o ps) (a ∷ b ∷ c ∷ d ∷ []) ≡ true
-pass_four o ps a b c d s p = let t = four_parts a b c d s
-    in rw (
-      lead_class a t.0,
-      t.1,
-      t.2,
-      t.3,
-      t.4,
-      s,
-      p,
-      after_by,
-      move,
-      move_inside,
-      goes_on,
-      osc_pending_move,
-      outcome,
-    ) refl
-
--- a whole sequence passes
-sequence_passes : (o : Opener) (ps : List OscUnit) (x : List ℕ) → is_sequence x ≡ true
-    → is_pair x ≡ false → all_pass (InOsc o ps) x ≡ true
-unfolding is_sequence
-sequence_passes o ps [] s p = absurd cc
-sequence_passes o ps (a ∷ []) s p = absurd cc
-sequence_passes o ps (a ∷ b ∷ []) s p = pass_two o ps a b s p
-sequence_passes o ps (a ∷ b ∷ c ∷ []) s p = pass_three o ps a b c s p
-sequence_passes o ps (a ∷ b ∷ c ∷ d ∷ []) s p = pass_four o ps a b c d s p
-sequence_passes o ps (a ∷ b ∷ c ∷ d ∷ e ∷ x) s p = absurd cc
-
 osc_pass : (o : Opener) (qs ps : List OscUnit) (r : List ℕ) → AreOscUnits ps r
     → list_all is_borrowed_osc_unit ps ≡ true
     → (all_pass (InOsc o qs) (text_bytes ps) ≡ true)
@@ -295,7 +231,7 @@ osc_pass o qs (Sequence x ∷ ps) r a h =
     let q = osc_pass o (qs ++ Sequence x ∷ []) ps r a.1 k.1 in
     let e = (osc_sequence None o qs x a.0.0 a.0.1).0 in (
       passes_append (InOsc o qs) x (text_bytes ps)
-          ∙ both (all_pass (InOsc o qs) x) _ (sequence_passes o qs x a.0.0 a.0.1)
+          ∙ both (all_pass (InOsc o qs) x) _ (osc_sequence_passes o qs x a.0.0 a.0.1)
           (ap (λ u. all_pass u (text_bytes ps)) e ∙ q.0),
       after_append (InOsc o qs) x (text_bytes ps) ∙ ap (λ u. after_all u (text_bytes ps)) e ∙ q.1
           ∙ ap (InOsc o) (append_assoc qs (Sequence x ∷ []) ps),

@@ -77,9 +77,7 @@ module _ (x ys : List ℕ) (some : 0 < length ys) (p : list_all is_digit ys ≡ 
 
 zero_keeps : (f : Form) → next_form (next_form f 0x30) 0x30 ≡ next_form f 0x30
 zero_keeps form.Empty = refl
-zero_keeps form.Parameters = refl
-zero_keeps form.Intermediates = refl
-zero_keeps form.Malformed = refl
+zero_keeps _ = refl
 
 no_private_prefix : (b : ℕ) → is_digit b ≡ true → is_private_prefix b ≡ false
 no_private_prefix b h = grind (arith, nat_tests)

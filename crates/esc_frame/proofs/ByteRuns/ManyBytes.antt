@@ -19,7 +19,7 @@ use Rattle.esc_frame.specs.Leads.Unfinished.{Ground, InOsc}
 use Rattle.esc_frame.specs.Segments.{Opener, OscUnit}
 use Rattle.esc_frame.specs.Segments.OscUnit.{Sequence}
 use Rattle.esc_frame.specs.Machine.Moves.{move, ground_move, pending_move, osc_pending_move, move_inside, goes_on, after_by, events_by, after_all, events_all}
-use Rattle.esc_frame.specs.Machine.Moves.{may_grow_within}
+use Rattle.esc_frame.specs.Machine.Moves.{all_pass, may_grow_within}
 use Rattle.esc_frame.specs.Machine.Calls.{Ran, StaysFresh, IsOneEvent}
 use Rattle.esc_frame.specs.Machine.Characters.{IsCharacter}
 use Rattle.esc_frame.proofs.Emits.EventsFold.{folds_then, stops_then, stops_more, stops_for, refused_stops}
@@ -349,6 +349,7 @@ osc_two : (limit : Option ℕ) (o : Opener) (ps : List OscUnit) (a b : ℕ)
     → is_sequence (a ∷ b ∷ []) ≡ true → is_pair (a ∷ b ∷ []) ≡ false
     → (after_all (InOsc o ps) (a ∷ b ∷ []) ≡ InOsc o (ps ++ Sequence (a ∷ b ∷ []) ∷ []))
     × (events_all limit (InOsc o ps) (a ∷ b ∷ []) ≡ [])
+    × (all_pass (InOsc o ps) (a ∷ b ∷ []) ≡ true)
 osc_two limit o ps a b s p = rw (
   lead_class a (two_parts a b s),
   s,
@@ -360,12 +361,13 @@ osc_two limit o ps a b s p = rw (
   goes_on,
   osc_pending_move,
   outcome,
-) (refl, refl)
+) (refl, refl, refl)
 
 osc_three : (limit : Option ℕ) (o : Opener) (ps : List OscUnit) (a b c : ℕ)
     → is_sequence (a ∷ b ∷ c ∷ []) ≡ true → is_pair (a ∷ b ∷ c ∷ []) ≡ false
     → (after_all (InOsc o ps) (a ∷ b ∷ c ∷ []) ≡ InOsc o (ps ++ Sequence (a ∷ b ∷ c ∷ []) ∷ []))
     × (events_all limit (InOsc o ps) (a ∷ b ∷ c ∷ []) ≡ [])
+    × (all_pass (InOsc o ps) (a ∷ b ∷ c ∷ []) ≡ true)
 osc_three limit o ps a b c s p = let t = three_parts a b c s
     in rw (
       lead_class a t.0,
@@ -380,13 +382,14 @@ osc_three limit o ps a b c s p = let t = three_parts a b c s
       goes_on,
       osc_pending_move,
       outcome,
-    ) (refl, refl)
+    ) (refl, refl, refl)
 
 osc_four : (limit : Option ℕ) (o : Opener) (ps : List OscUnit) (a b c d : ℕ)
     → is_sequence (a ∷ b ∷ c ∷ d ∷ []) ≡ true → is_pair (a ∷ b ∷ c ∷ d ∷ []) ≡ false
     → (after_all (InOsc o ps) (a ∷ b ∷ c ∷ d ∷ [])
     ≡ InOsc o (ps ++ Sequence (a ∷ b ∷ c ∷ d ∷ []) ∷ []))
     × (events_all limit (InOsc o ps) (a ∷ b ∷ c ∷ d ∷ []) ≡ [])
+    × (all_pass (InOsc o ps) (a ∷ b ∷ c ∷ d ∷ []) ≡ true)
 osc_four limit o ps a b c d s p = let t = four_parts a b c d s
     in rw (
       lead_class a t.0,
@@ -403,19 +406,29 @@ osc_four limit o ps a b c d s p = let t = four_parts a b c d s
       goes_on,
       osc_pending_move,
       outcome,
-    ) (refl, refl)
+    ) (refl, refl, refl)
+
+osc_sequence_does : (limit : Option ℕ) (o : Opener) (ps : List OscUnit) (x : List ℕ)
+    → is_sequence x ≡ true → is_pair x ≡ false
+    → (after_all (InOsc o ps) x ≡ InOsc o (ps ++ Sequence x ∷ []))
+    × (events_all limit (InOsc o ps) x ≡ []) × (all_pass (InOsc o ps) x ≡ true)
+unfolding is_sequence
+osc_sequence_does limit o ps [] s p = none s
+osc_sequence_does limit o ps (a ∷ []) s p = none s
+osc_sequence_does limit o ps (a ∷ b ∷ []) s p = osc_two limit o ps a b s p
+osc_sequence_does limit o ps (a ∷ b ∷ d ∷ []) s p = osc_three limit o ps a b d s p
+osc_sequence_does limit o ps (a ∷ b ∷ d ∷ e ∷ []) s p = osc_four limit o ps a b d e s p
+osc_sequence_does limit o ps (a ∷ b ∷ d ∷ e ∷ f ∷ x) s p = none s
 
 pub osc_sequence : (limit : Option ℕ) (o : Opener) (ps : List OscUnit) (x : List ℕ)
     → is_sequence x ≡ true → is_pair x ≡ false
     → (after_all (InOsc o ps) x ≡ InOsc o (ps ++ Sequence x ∷ []))
     × (events_all limit (InOsc o ps) x ≡ [])
-unfolding is_sequence
-osc_sequence limit o ps [] s p = none s
-osc_sequence limit o ps (a ∷ []) s p = none s
-osc_sequence limit o ps (a ∷ b ∷ []) s p = osc_two limit o ps a b s p
-osc_sequence limit o ps (a ∷ b ∷ d ∷ []) s p = osc_three limit o ps a b d s p
-osc_sequence limit o ps (a ∷ b ∷ d ∷ e ∷ []) s p = osc_four limit o ps a b d e s p
-osc_sequence limit o ps (a ∷ b ∷ d ∷ e ∷ f ∷ x) s p = none s
+osc_sequence limit o ps x s p = let q = osc_sequence_does limit o ps x s p in (q.0, q.1)
+
+pub osc_sequence_passes : (o : Opener) (ps : List OscUnit) (x : List ℕ) → is_sequence x ≡ true
+    → is_pair x ≡ false → all_pass (InOsc o ps) x ≡ true
+osc_sequence_passes o ps x s p = (osc_sequence_does None o ps x s p).2
 
 -- ---- what the actor is given of them
 

@@ -4,6 +4,7 @@ use Rattle.std.proofs.Common.{Option, None, Result, Ok, Err, IfOk}
 use Rattle.std.specs.List.{FoldsTo, list_all}
 use Rattle.std.proofs.Math.Seq.{take-add}
 use Rattle.std.proofs.lemmas.Bool.Decides.{nat_tests}
+use Rattle.std.proofs.lemmas.List.{get_or-drop}
 use Rattle.esc_values.specs.declared.csi_param.CsiParam.{CsiParam}
 use Rattle.esc_frame.specs.Classes.{class_of}
 use Rattle.esc_frame.specs.Events.{Event, StopsAt}
@@ -16,14 +17,44 @@ use Rattle.esc_frame.specs.Machine.Moves.{after_all, events_all, move_inside, Is
 use Rattle.esc_frame.specs.Scans.{is_body_byte}
 use Rattle.esc_frame.specs.Segments.{csi_events}
 use Rattle.esc_frame.specs.Segments.Opener.{Long}
-use Rattle.esc_frame.specs.Machine.Taking.{StartsWithShortCsi}
+use Rattle.esc_frame.specs.Machine.Shorts.{IsShort, PutsBody, first_params}
+use Rattle.esc_frame.specs.Changed.{Changed}
+use Rattle.esc_frame.specs.declared.unfinished.fields.Body.{Body}
+use Rattle.esc_frame.specs.Machine.Taking.{OpensCsi, StartsWithShortCsi}
+use Rattle.esc_frame.specs.Sequences.{is_from}
 use Rattle.esc_frame.proofs.ByteRuns.CsiRuns.{csi_opens, body_quiet, body_strip, final_by}
 use Rattle.esc_frame.proofs.Borrow.BytesAreLent.{after_more, ground_fresh}
-use Rattle.esc_frame.proofs.ByteRuns.ManyBytes.{tail_is}
+use Rattle.esc_frame.proofs.ByteRuns.ManyBytes.{tail_is, tail_length}
 use Rattle.esc_frame.proofs.ByteRuns.QuietRuns.{quiet_after, quiet_given, quiet_stopped}
 use Rattle.esc_frame.proofs.Emits.EventsFold.{refused_stops, stops_for}
 use Rattle.esc_frame.proofs.Emits.EventsAreTheCuts.{events_append}
 use Rattle.esc_frame.proofs.Emits.StopsAtFirstEvent.{opened_still, body_still}
+
+no_zero : (b : ℕ) → is_from 0x40 0x7e b ≡ true → 0 < b
+no_zero b h = grind (arith, nat_tests)
+
+-- a body that was read from the third byte on, and a final byte after it
+pub short_read : {E : Type 0} (param : E → CsiParam) (params : Changed (List E)) (rest : List ℕ)
+    (body : Body) → OpensCsi rest
+    → PutsBody param params (take (length rest - 2) (drop 2 rest)) body
+    → is_from 0x40 0x7e body.after ≡ true
+    → StartsWithShortCsi (first_params param body.count params.exit.now) rest body.length
+    × (get_or rest (body.length + 2) 0 ≡ body.after)
+short_read param params rest body opens puts final =
+    let items = first_params param body.count params.exit.now in
+    let next = puts.after (no_zero body.after final) in
+    let back : 2 + body.length ≡ body.length + 2 = omega arith in
+    let same : get_or rest (body.length + 2) 0 ≡ body.after =
+    ap (λ n. get_or rest n 0) (sym back) ∙ sym (get_or-drop 2 rest body.length 0)
+    ∙ ap (λ y. get_or y body.length 0) (sym (tail_is rest 2)) ∙ next.1 in (
+      record {
+        opens = opens;
+        few = omega (arith, tail_length rest 2, next.0);
+        read = subst (λ y. IsShort items (take body.length y)) (tail_is rest 2) puts.keeps;
+        ends = ap (is_from 0x40 0x7e) same ∙ final;
+      },
+      same,
+    )
 
 module _ (limit : Option ℕ) (rest : List ℕ) (run : ℕ) (items : List CsiParam)
     (starts : StartsWithShortCsi items rest run) where

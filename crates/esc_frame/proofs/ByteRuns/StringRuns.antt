@@ -1,6 +1,6 @@
 -- Runs of text in the bodies of strings.
 use Rattle.std.proofs.Common.{ℕ, zero, suc, ◌≡◌, ◌+◌, ◌-◌, Bool, true, false, List, [], ◌∷◌, ◌++◌, length, take, drop, get_or, map, Option, ◌<◌}
-use Rattle.std.proofs.Common.{refl, ap, sym, ◌∙◌, subst, append_assoc, arith}
+use Rattle.std.proofs.Common.{refl, ap, sym, ◌∙◌, subst, append_assoc, arith, inl, inr}
 use Rattle.std.specs.List.{list_all, prefix_len}
 use Rattle.std.proofs.Math.Seq.{take-add}
 use Rattle.std.proofs.lemmas.List.{append-nil}
@@ -24,7 +24,7 @@ use Rattle.esc_frame.specs.Leads.Unfinished.{InData, InApc, InIgnored, InOsc}
 use Rattle.esc_frame.specs.Machine.Moves.{move_inside, goes_on, after_by, events_by, after_all, events_all}
 use Rattle.esc_frame.specs.Machine.TextRuns.{IsTextRun}
 use Rattle.esc_frame.proofs.ByteRuns.ManyBytes.{quiet_run, text_class, run_passes, osc_sequence, tail_is}
-use Rattle.esc_frame.proofs.Steps.StateIsKnown.{data_only, skip_only}
+use Rattle.esc_frame.proofs.Steps.StateIsKnown.{IsIn, known_in}
 use Rattle.esc_frame.proofs.Emits.EventsAreTheCuts.{after_append, events_append}
 
 -- ---- an operating system command
@@ -188,11 +188,13 @@ module _ {K A : Type 0} (keeps : Option ℕ → K → List ℕ
     ≡ true) where
   pub skip_holds : (u : Unfinished) → m.state ≡ state.Ignored → Holds keeps limit m u
       → Holds keeps limit m (after_all u ys) × (events_all limit u ys ≡ [])
-  skip_holds u s h =
-      skip_only keeps limit m u s h (λ v. Holds keeps limit m (after_all v ys)
-      × (events_all limit v ys ≡ []))
-      (λ o x f d e. let q = skip_data limit o x f d ys e p in rw (q.0, q.1) (rw (e, s) refl, refl))
-      (λ k o d. let q = skip_ignored limit k o d ys p in rw (q.0, q.1) (s, refl))
+  skip_holds u s h = skips (known_in keeps limit m state.Ignored u s h)
+    where
+      skips : IsIn keeps limit m state.Ignored u
+          → Holds keeps limit m (after_all u ys) × (events_all limit u ys ≡ [])
+      skips (inl (o, x, f, d, e, r)) = let q = skip_data limit o x f d ys r p in
+          rw (e, q.0, q.1) (rw (r, s) refl, refl)
+      skips (inr (k, o, d, e)) = let q = skip_ignored limit k o d ys p in rw (e, q.0, q.1) (s, refl)
 
 pub data_holds : {K A : Type 0} (keeps : Option ℕ → K → List ℕ
     → Type 0) (limit : Option ℕ) (m : Machine K A) (ys : List ℕ) → list_all is_data_byte ys ≡ true
@@ -200,6 +202,6 @@ pub data_holds : {K A : Type 0} (keeps : Option ℕ → K → List ℕ
     → Holds keeps limit m u → Holds keeps limit m (after_all u ys)
     × (events_all limit u ys ≡ map DcsPut ys)
 data_holds keeps limit m ys p u s h =
-    data_only keeps limit m u s h (λ v. Holds keeps limit m (after_all v ys)
-    × (events_all limit v ys ≡ map DcsPut ys))
-    (λ o x f d e. let q = data_text limit o x f d ys e p in rw (q.0, q.1) (rw (e, s) refl, refl))
+    let i = known_in keeps limit m state.Data u s h in
+    let q = data_text limit i.0 i.1 i.2 i.3 ys i.5 p in
+    rw (i.4, q.0, q.1) (rw (i.5, s) refl, refl)

@@ -123,20 +123,12 @@ escape_code = refl
 letter_code : (k : Kind) → class_of (letter_of k) ≡ Introducer k
 unfolding class_of
 letter_code kind.Csi = refl
-letter_code kind.Osc = refl
-letter_code kind.Dcs = refl
-letter_code kind.Sos = refl
-letter_code kind.Pm = refl
-letter_code kind.Apc = refl
+letter_code _ = refl
 
 raw_code : (k : Kind) → class_of (raw_of k) ≡ Breaks (C1Introducer k)
 unfolding class_of
 raw_code kind.Csi = refl
-raw_code kind.Osc = refl
-raw_code kind.Dcs = refl
-raw_code kind.Sos = refl
-raw_code kind.Pm = refl
-raw_code kind.Apc = refl
+raw_code _ = refl
 
 text_first : (b : ℕ) (r : List ℕ) (c : Class) → is_text c ≡ true
     → first_by b r c ≡ OneSegment (Character b)

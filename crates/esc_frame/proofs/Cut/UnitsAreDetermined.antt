@@ -5,7 +5,7 @@ use Rattle.std.proofs.lemmas.List.{append-nil, append_cancel_left}
 use Rattle.std.proofs.lemmas.Bool.{and_parts, or_cases}
 use Rattle.std.proofs.lemmas.Bool.Decides.{nat_tests}
 use Rattle.esc_frame.specs.declared.classes.Class.{Class}
-use Rattle.esc_frame.specs.declared.classes.Class.TheVariants.{C0, Bell, Intermediate, Parameter, Introducer, Final, Delete, High, Lead, Breaks}
+use Rattle.esc_frame.specs.declared.classes.Class.TheVariants.{C0, Bell, High, Lead, Breaks}
 use Rattle.esc_frame.specs.Classes.{class_of, is_breaker, is_raw, in_osc, is_text}
 use Rattle.esc_frame.specs.Sequences.{is_sequence, is_pair}
 use Rattle.esc_frame.specs.Segments.{OscUnit, Ending, IsOscUnit, IsEnding, AreOscUnits, text_bytes, osc_unit_bytes, ending_bytes, breaks_text, begins_pair}
@@ -43,16 +43,10 @@ next_lead [] h = absurd cc
 next_lead (b ∷ s) h = ap (next_by b s) (lead_is (class_of b) h)
 
 one_next : (b : ℕ) (t : List ℕ) (c : Class) → in_osc c ≡ true → next_by b t c ≡ NextIs (One b)
-one_next b t C0 h = refl
-one_next b t High h = refl
-one_next b t Intermediate h = refl
-one_next b t Parameter h = refl
-one_next b t (Introducer k) h = refl
-one_next b t Final h = refl
-one_next b t Delete h = refl
 one_next b t Lead h = absurd cc
 one_next b t Bell h = absurd cc
 one_next b t (Breaks k) h = absurd cc
+one_next b t _ h = refl
 
 osc_unit_is_next : (p : OscUnit) (t : List ℕ) → IsOscUnit p t
     → next_osc_unit (osc_unit_bytes p ++ t) ≡ NextIs p

@@ -3,7 +3,7 @@ use Rattle.std.proofs.Common.{ℕ, zero, suc, ◌≡◌, ◌+◌, ◌-◌, ◌<�
 use Rattle.std.proofs.Common.{refl, ap, sym, ◌∙◌, subst, arith, ◌⊎◌, inl, inr, Ok}
 use Rattle.std.specs.List.{FoldsTo, list_all, prefix_len}
 use Rattle.std.proofs.Math.Seq.{take-add}
-use Rattle.std.proofs.lemmas.Bool.{and_parts, cases_lt}
+use Rattle.std.proofs.lemmas.Bool.{and_parts, cases_lt, false≢true}
 use Rattle.std.proofs.lemmas.List.{take-take, take-append-drop, length-take-le}
 use Rattle.std.proofs.lemmas.List.Folds.{list_all-append}
 use Rattle.esc_frame.specs.declared.classes.Class.{Class}
@@ -12,14 +12,15 @@ use Rattle.esc_frame.specs.declared.machine.Machine.{Machine}
 use Rattle.esc_frame.specs.declared.machine.State.TheVariants as state
 use Rattle.esc_frame.specs.declared.utf8.sequence.Outcome.{Outcome}
 use Rattle.esc_frame.specs.declared.utf8.sequence.Outcome.TheVariants as outcomes
-use Rattle.esc_frame.specs.Classes.{class_of, is_breaker, in_csi, in_osc}
+use Rattle.esc_frame.specs.Classes.{class_of, is_breaker, in_osc}
 use Rattle.esc_frame.specs.Machine.Calls.{TookSome, StaysFresh}
 use Rattle.esc_frame.specs.Machine.Characters.{IsCharacter}
+use Rattle.esc_frame.specs.Machine.TextRuns.{IsTextRun}
 use Rattle.esc_frame.specs.Events.{Event, StopsAt}
 use Rattle.esc_frame.specs.Leads.{Unfinished, Holds}
 use Rattle.esc_frame.specs.Leads.Unfinished.{Ground, InCsi, InApc, InOsc, InOscPending}
 use Rattle.esc_frame.specs.Machine.Moves.{move, after_by, events_by, pending_move, move_inside, goes_on, final_osc, osc_pending_move, after_all}
-use Rattle.esc_frame.specs.Machine.Moves.{events_all, is_ground, is_fresh, borrows, may_grow_within, IsStill}
+use Rattle.esc_frame.specs.Machine.Moves.{events_all, is_ground, is_fresh, borrows, is_borrowable, may_grow_in, may_grow_within, IsStill, IsQuietRun}
 use Rattle.esc_frame.specs.Scans.{is_body_byte, is_text_byte}
 use Rattle.esc_frame.specs.Segments.{Opener, OscUnit}
 use Rattle.esc_frame.specs.Segments.OscUnit.{BrokenOff}
@@ -27,9 +28,9 @@ use Rattle.esc_frame.specs.Sequences.{is_sequence, is_pair, outcome}
 use Rattle.esc_frame.specs.Stream.{IsQuietWithin}
 use Rattle.esc_frame.proofs.Cut.CutAtGround.{to_ground}
 use Rattle.esc_frame.proofs.ByteRuns.CsiRuns.{body_quiet, escape_class}
-use Rattle.esc_frame.proofs.Borrow.BytesAreLent.{after_more, csi_fresh, fresh_by, not_both}
+use Rattle.esc_frame.proofs.Borrow.BytesAreLent.{after_more, fresh_by, is_string, not_both, one_unborrowed}
 use Rattle.esc_frame.proofs.ByteRuns.ManyBytes.{tail_is, tail_length, ran_took, ran_ends, lead_class, two_parts, three_parts, four_parts}
-use Rattle.esc_frame.proofs.ByteRuns.QuietRuns.{quiet_after, quiet_folds}
+use Rattle.esc_frame.proofs.ByteRuns.QuietRuns.{quiet_folds}
 use Rattle.esc_frame.proofs.ByteRuns.StringRuns.{apc_text, skip_holds, prefix_passes}
 use Rattle.esc_frame.proofs.Emits.EventsAreTheCuts.{after_append, events_append, added_is}
 
@@ -39,6 +40,15 @@ Still limit u ys = (events_all limit u ys ≡ []) × (is_ground (after_all u ys)
 
 pub one_still : (limit : Option ℕ) (u : Unfinished) (rest : List ℕ) → IsStill limit u rest 1
 one_still limit u rest = λ k a b. absurd (omega arith)
+
+-- one byte outside of strings
+pub one_run : (limit : Option ℕ) (u : Unfinished) (rest : List ℕ) → is_string u ≡ false
+    → IsQuietRun limit u rest 0
+one_run limit u rest s = record {
+  none = refl;
+  still = one_still limit u rest;
+  unlent = one_unborrowed u rest s;
+}
 
 pub less_still : (limit : Option ℕ) (u : Unfinished) (rest : List ℕ) (m n : ℕ) → m ≤ n
     → IsStill limit u rest n → IsStill limit u rest m
@@ -89,18 +99,13 @@ body_still limit o x rest run h = λ k a b.
     h) in
     (q.1, ap is_ground q.0)
 
-pub body_fresh : (o : Opener) (x rest : List ℕ) (run : ℕ)
-    → list_all is_body_byte (take run rest) ≡ true → run < length rest
-    → StaysFresh (InCsi o x) rest (run + 1)
-body_fresh o x rest run h room =
-    let y : List ℕ = x ++ take run rest in
-    let b : ℕ = get_or rest run 0 in
-    fresh_by (InCsi o x) (after_by (InCsi o y) b (class_of b)) rest (run + 1)
-    (quiet_after {S = Unit {0}} None (λ _ _ _. Unit {0}) (λ _ _ _. Unit {0}) (InCsi o x) (InCsi o y)
-    rest run (class_of b) tt tt
-    (body_quiet None o x (take run rest) h) room refl)
-    (csi_fresh o y b (class_of b) (drop (run + 1) rest) (is_breaker (class_of b))
-    (in_csi (class_of b)) refl refl)
+pub body_run : (limit : Option ℕ) (o : Opener) (x rest : List ℕ) (run : ℕ)
+    → list_all is_body_byte (take run rest) ≡ true → IsQuietRun limit (InCsi o x) rest run
+body_run limit o x rest run h = let q = body_quiet limit o x (take run rest) h in record {
+  none = q.1;
+  still = body_still limit o x rest run h;
+  unlent = λ g. absurd (false≢true (sym (ap may_grow_in q.0) ∙ g));
+}
 
 -- ---- an operating system command: without a limit, to leave it emits its event
 
@@ -171,6 +176,16 @@ text_still limit o ps rest run h = λ k a b.
           (stays (InOsc o ps) (take k rest) refl (e None)),
     )
 
+-- a run that is kept
+pub osc_run : (limit : Option ℕ) (o : Opener) (ps : List OscUnit) (rest : List ℕ) (run : ℕ)
+    → IsTextRun (take run rest) → is_borrowable (InOsc o ps) rest ≡ false
+    → IsQuietRun limit (InOsc o ps) rest run
+osc_run limit o ps rest run text k = record {
+  none = (text.2 limit o ps).1;
+  still = text_still limit o ps rest run (λ any. (text.2 any o ps).1);
+  unlent = λ g. k;
+}
+
 -- ---- runs in the strings that a breaker ends
 
 holds_no_ground : {K A : Type 0} (keeps : Option ℕ → K → List ℕ
@@ -186,6 +201,15 @@ apc_end_still limit o d rest run h = λ k a b.
     let q = apc_text limit o d (take k rest) (passes_before is_text_byte rest run k (omega arith)
     h) in
     (q.1, ap is_ground q.0)
+
+pub apc_run : (limit : Option ℕ) (o : Opener) (d rest : List ℕ) (run : ℕ)
+    → list_all is_text_byte (take run rest) ≡ true → is_borrowable (InApc o d) rest ≡ false
+    → IsQuietRun limit (InApc o d) rest run
+apc_run limit o d rest run h k = record {
+  none = (apc_text limit o d (take run rest) h).1;
+  still = apc_end_still limit o d rest run h;
+  unlent = λ g. k;
+}
 
 module _ {K A : Type 0} (keeps : Option ℕ → K → List ℕ
     → Type 0) (limit : Option ℕ) (m : Machine K A) (u : Unfinished) (rest : List ℕ) (run : ℕ)

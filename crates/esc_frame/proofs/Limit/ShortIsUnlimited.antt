@@ -3,8 +3,7 @@ use Rattle.std.proofs.Common.{ℕ, ◌≡◌, Bool, true, List, [], ◌∷◌, �
 use Rattle.esc_frame.specs.Counts.{count_of, AreWithin}
 use Rattle.esc_frame.specs.Limits.{is_within}
 use Rattle.esc_frame.specs.Segments.{Segment, IsCut, events_of, events_of_within, events_of_cut, events_of_cut_within, ends_itself}
-use Rattle.esc_frame.specs.Segments.Segment.{Character, Wide, Broken, Stray, Control, HighControl, Terminator, Escape, Csi, Osc, CutEscape, CutCsi, CutDcs}
-use Rattle.esc_frame.specs.Segments.Segment.{Dcs, Apc, Ignored}
+use Rattle.esc_frame.specs.Segments.Segment.{Osc, Dcs, Apc}
 use Rattle.esc_frame.specs.Stream.{events_within, events}
 use Rattle.esc_frame.proofs.Cut.CutExists.{events_of_the_cut}
 use Rattle.esc_frame.proofs.Cut.CutIsUnique.{events_once}
@@ -14,19 +13,7 @@ same_events : (limit : Option ℕ) (g : Segment) (f : Bool) → is_within limit 
 same_events limit (Osc o ps e) f h = rw h refl
 same_events limit (Apc o d) f h = rw h refl
 same_events limit (Dcs o x b d) f h = rw h refl
-same_events limit (Character c) f h = refl
-same_events limit (Wide x) f h = refl
-same_events limit (Broken x) f h = refl
-same_events limit (Stray c) f h = refl
-same_events limit (Control c) f h = refl
-same_events limit (HighControl p c) f h = refl
-same_events limit (Terminator p c) f h = refl
-same_events limit (Escape x c) f h = refl
-same_events limit (Csi o x c) f h = refl
-same_events limit (CutEscape x) f h = refl
-same_events limit (CutCsi o x) f h = refl
-same_events limit (CutDcs o x) f h = refl
-same_events limit (Ignored k o d) f h = refl
+same_events limit _ f h = refl
 
 same_cut : (limit : Option ℕ) (gs : List Segment) → AreWithin limit gs
     → events_of_cut_within limit gs ≡ events_of_cut gs

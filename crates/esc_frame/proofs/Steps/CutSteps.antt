@@ -88,11 +88,7 @@ module _ (limit : Option ℕ) where
   opened_emitted : (k : Kind) (o : Opener) → emitted_open limit (unfinished_at_opener k o)
       ≡ opener_events o
   opened_emitted kind.Csi o = append-nil (opener_events o)
-  opened_emitted kind.Osc o = refl
-  opened_emitted kind.Dcs o = refl
-  opened_emitted kind.Sos o = refl
-  opened_emitted kind.Pm o = refl
-  opened_emitted kind.Apc o = refl
+  opened_emitted _ o = refl
 
   ground_step : (w : List ℕ) (es : List Event) (gs : List Segment) (b : ℕ) (c : Class)
       → class_of b ≡ c → Meets limit w es gs (b ∷ [])

@@ -1,6 +1,6 @@
 -- What an actor may be given: a promise P of one of the things that the machine may keep before a
 -- call. No contract of `VTParser` cites it.
-use Rattle.std.specs.Prelude.{ℕ, ◌≡◌, true, List, [], ◌++◌, Option}
+use Rattle.std.specs.Prelude.{ℕ, ◌≡◌, true, List, [], take, Option}
 use Rattle.esc_frame.specs.declared.machine.Machine.{Machine}
 use Rattle.esc_frame.specs.declared.unfinished.body.CsiBody.{CsiBody}
 use Rattle.esc_frame.specs.declared.unfinished.header.DcsHeader.{DcsHeader}
@@ -12,12 +12,22 @@ use Rattle.esc_frame.specs.Limits.{is_read}
 use Rattle.esc_frame.specs.Machine.Prefixes.{prefix_of}
 use Rattle.esc_frame.specs.Machine.Keeping.{StoresText}
 use Rattle.esc_frame.specs.Machine.Keeps.{Keeps, KeepsBody, KeepsDcs, parameters_of}
+use Rattle.esc_frame.specs.Machine.Moves.{after_all, events_all}
 use Rattle.esc_frame.specs.Segments.{Opener, OscUnit, text_of}
 
 -- what is unfinished
 abbrev pub KeptSegment : {K A : Type 0} → Keeper K → Machine K A → (Unfinished → Type 0)
     → Type 0
 KeptSegment K machine P = (u : Unfinished) × Holds K.keeps machine.limit machine u × P u
+
+-- what was unfinished before the first bytes of the rest, a run of this length that emits nothing,
+-- and is kept with these
+abbrev pub KeptAfter : {K A : Type 0} → Keeper K → List ℕ → ℕ → Machine K A
+    → (Unfinished → Type 0)
+    → Type 0
+KeptAfter K rest run machine P = (u : Unfinished)
+    × Holds K.keeps machine.limit machine (after_all u (take run rest))
+    × (events_all machine.limit u (take run rest) ≡ []) × P u
 
 -- a text that the store keeps
 abbrev pub KeptText : {K : Type 0} → Keeper K → K → (Option ℕ → List ℕ → Type 0) → Type 0
@@ -39,24 +49,12 @@ abbrev pub KeptCsi : {K A : Type 0} → Machine K A → (Option ℕ → Unfinish
 KeptCsi machine P = (limit : Option ℕ) × (o : Opener) × (x : List ℕ)
     × KeepsBody machine.body (without_noise x) × P limit (InCsi o x)
 
--- of which these bytes come next, and are kept already
-abbrev pub KeptCsiAnd : {K A : Type 0} → List ℕ → Machine K A → (Option ℕ → Unfinished → Type 0)
-    → Type 0
-KeptCsiAnd more machine P = (limit : Option ℕ) × (o : Opener) × (x : List ℕ)
-    × KeepsBody machine.body (without_noise x ++ more) × P limit (InCsi o x)
-
 -- ---- osc string: the text
 
 abbrev pub KeptOsc : {K A : Type 0} → Keeper K → Machine K A → (Unfinished → Type 0)
     → Type 0
 KeptOsc K machine P = (o : Opener) × (ps : List OscUnit)
     × StoresText K machine (text_of ps) × P (InOsc o ps)
-
-abbrev pub KeptOscAnd : {K A : Type 0} → Keeper K → List ℕ → Machine K A
-    → (Unfinished → Type 0)
-    → Type 0
-KeptOscAnd K more machine P = (o : Opener) × (ps : List OscUnit)
-    × StoresText K machine (text_of ps ++ more) × P (InOsc o ps)
 
 abbrev pub KeptOscUnits : {K A : Type 0} → Keeper K → Machine K A
     → (Opener → List OscUnit → Type 0)
@@ -82,12 +80,6 @@ abbrev pub KeptApc : {K A : Type 0} → Keeper K → Machine K A → (Unfinished
     → Type 0
 KeptApc K machine P = (o : Opener) × (d : List ℕ)
     × StoresText K machine (bytes_of_class is_text d) × P (InApc o d)
-
-abbrev pub KeptApcAnd : {K A : Type 0} → Keeper K → List ℕ → Machine K A
-    → (Unfinished → Type 0)
-    → Type 0
-KeptApcAnd K more machine P = (o : Opener) × (d : List ℕ)
-    × StoresText K machine (bytes_of_class is_text d ++ more) × P (InApc o d)
 
 abbrev pub NewApc : (Unfinished → Type 0) → Type 0
 NewApc P = (o : Opener) × (d : List ℕ) × (bytes_of_class is_text d ≡ []) × P (InApc o d)

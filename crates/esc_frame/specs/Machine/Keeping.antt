@@ -1,6 +1,6 @@
 -- What a call is given: a promise P of each thing that the machine may keep before it. Only private
 -- contracts cite it.
-use Rattle.std.specs.Prelude.{ℕ, ◌≡◌, true, false, List, [], ◌++◌, Bool, Option}
+use Rattle.std.specs.Prelude.{ℕ, ◌≡◌, true, false, List, [], ◌+◌, take, Bool, Option}
 use Rattle.esc_frame.specs.declared.classes.Kind.{Kind}
 use Rattle.esc_frame.specs.declared.unfinished.header.DcsHeader.{DcsHeader}
 use Rattle.esc_frame.specs.declared.machine.Machine.{Machine}
@@ -12,7 +12,7 @@ use Rattle.esc_frame.specs.Leads.Unfinished.{InEscape, InCsi, InOsc, InOscPendin
 use Rattle.esc_frame.specs.Limits.{is_read}
 use Rattle.esc_frame.specs.Machine.Prefixes.{prefix_of}
 use Rattle.esc_frame.specs.Machine.Keeps.{Keeps, KeepsBody, KeepsDcs, parameters_of}
-use Rattle.esc_frame.specs.Machine.Moves.{is_borrowable}
+use Rattle.esc_frame.specs.Machine.Moves.{after_all, is_borrowable, IsStill, IsQuietRun}
 use Rattle.esc_frame.specs.Segments.{Opener, OscUnit, text_of}
 
 -- the store of the machine keeps this text, as far as its limit allows
@@ -24,6 +24,21 @@ abbrev pub Holding : {K A : Type 0} → Keeper K → Changed (Machine K A)
     → (Unfinished → Type 0)
     → Type 0
 Holding K self P = (u : Unfinished) → Holds K.keeps self.entry.now.limit self.entry.now u → P u
+
+-- whatever was unfinished before the first bytes of the rest, a run of this length, and is now kept
+-- with these
+abbrev pub HoldingAfter : {K A : Type 0} → Keeper K → List ℕ → ℕ → Changed (Machine K A)
+    → (Unfinished → Type 0)
+    → Type 0
+HoldingAfter K rest run self P =
+    (u : Unfinished)
+    → Holds K.keeps self.entry.now.limit self.entry.now (after_all u (take run rest))
+    → IsQuietRun self.entry.now.limit u rest run
+    → P u
+
+-- whatever may be
+abbrev pub AfterStill : Option ℕ → List ℕ → ℕ → (Unfinished → Type 0) → Type 0
+AfterStill limit rest run P = (u : Unfinished) → IsStill limit u rest (run + 1) → P u
 
 -- where not all strings in the rest can be borrowed
 abbrev pub Unborrowed : List ℕ → (Unfinished → Type 0) → Unfinished → Type 0
@@ -51,19 +66,6 @@ KeepingCsi self P =
     (limit : Option ℕ) (o : Opener) (x : List ℕ) → KeepsBody self.entry.now.body (without_noise x)
     → P limit (InCsi o x)
 
--- of which these bytes come next, and are kept already
-abbrev pub KeepingCsiAnd : {K A : Type 0} → List ℕ → Changed (Machine K A)
-    → (Option ℕ → Unfinished → Type 0)
-    → Type 0
-KeepingCsiAnd more self P =
-    (limit : Option ℕ) (o : Opener) (x : List ℕ)
-    → KeepsBody self.entry.now.body (without_noise x ++ more)
-    → P limit (InCsi o x)
-
--- whatever is kept of it
-abbrev pub AnyCsi : (Option ℕ → Unfinished → Type 0) → Type 0
-AnyCsi P = (limit : Option ℕ) (o : Opener) (x : List ℕ) → P limit (InCsi o x)
-
 -- ---- osc string: the text
 
 abbrev pub KeepingOsc : {K A : Type 0} → Keeper K → Changed (Machine K A)
@@ -71,14 +73,6 @@ abbrev pub KeepingOsc : {K A : Type 0} → Keeper K → Changed (Machine K A)
     → Type 0
 KeepingOsc K self P =
     (o : Opener) (ps : List OscUnit) → StoresText K self.entry.now (text_of ps)
-    → P (InOsc o ps)
-
--- of which these bytes come next, and are kept already
-abbrev pub KeepingOscAnd : {K A : Type 0} → Keeper K → List ℕ → Changed (Machine K A)
-    → (Unfinished → Type 0)
-    → Type 0
-KeepingOscAnd K more self P =
-    (o : Opener) (ps : List OscUnit) → StoresText K self.entry.now (text_of ps ++ more)
     → P (InOsc o ps)
 
 -- in which a UTF-8 sequence has begun
@@ -105,14 +99,6 @@ abbrev pub KeepingApc : {K A : Type 0} → Keeper K → Changed (Machine K A)
     → Type 0
 KeepingApc K self P =
     (o : Opener) (d : List ℕ) → StoresText K self.entry.now (bytes_of_class is_text d)
-    → P (InApc o d)
-
--- of which these bytes come next, and are kept already
-abbrev pub KeepingApcAnd : {K A : Type 0} → Keeper K → List ℕ → Changed (Machine K A)
-    → (Unfinished → Type 0)
-    → Type 0
-KeepingApcAnd K more self P =
-    (o : Opener) (d : List ℕ) → StoresText K self.entry.now (bytes_of_class is_text d ++ more)
     → P (InApc o d)
 
 -- of which no text has come

@@ -1,6 +1,6 @@
 -- The byte machine: what one byte makes of what is unfinished, and what it emits. Only private
 -- contracts cite it.
-use Rattle.std.specs.Prelude.{ℕ, ◌≡◌, ◌<◌, Bool, true, false, not, ◌||◌, ◌&&◌, if◌then◌else◌, List, [], ◌∷◌, ◌++◌, take, Option, None}
+use Rattle.std.specs.Prelude.{ℕ, ◌≡◌, ◌<◌, ◌+◌, Bool, true, false, not, ◌||◌, ◌&&◌, if◌then◌else◌, List, [], ◌∷◌, ◌++◌, take, Option, None}
 use Rattle.esc_frame.specs.declared.classes.Class.{Class}
 use Rattle.esc_frame.specs.declared.classes.Class.TheVariants.{Introducer, High, Lead, Bell, Breaks}
 use Rattle.esc_frame.specs.declared.classes.Breaker.TheVariants.{Escape, C1Introducer}
@@ -232,3 +232,10 @@ may_grow_within u bs = reaches_growing u bs && not (is_borrowable u bs)
 abbrev pub IsStill : Option ℕ → Unfinished → List ℕ → ℕ → Type 0
 IsStill limit u rest n = (k : ℕ) → 0 < k → k < n → (events_all limit u (take k rest) ≡ [])
     × (is_ground (after_all u (take k rest)) ≡ false)
+
+-- The first n bytes of the rest emit nothing, where u was unfinished before, and leave a segment
+-- unfinished. Where memory may grow after them, not all strings in the rest can be lent.
+pub record IsQuietRun (limit : Option ℕ) (u : Unfinished) (rest : List ℕ) (n : ℕ) : Type 0 where
+  pub none : events_all limit u (take n rest) ≡ []
+  pub still : IsStill limit u rest (n + 1)
+  pub unlent : may_grow_in (after_all u (take n rest)) ≡ true → is_borrowable u rest ≡ false

@@ -1,6 +1,6 @@
 -- What a call that takes bytes in one state of the machine is given, and what it says, in the same
 -- words for each state. Contracts of parts cite it, here and in `heapless_parser`.
-use Rattle.std.specs.Prelude.{ℕ, ◌≡◌, ◌<◌, ◌≤◌, ◌+◌, ◌⊎◌, true, Bool, List, [], Option, Result, IfOk, length, take, drop, slice_index}
+use Rattle.std.specs.Prelude.{ℕ, ◌≡◌, ◌<◌, ◌≤◌, ◌+◌, ◌⊎◌, true, Bool, List, [], Option, Result, length, take, drop, slice_index}
 use Rattle.std.specs.List.{list_all}
 use Rattle.esc_values.specs.declared.csi_param.CsiParam.{CsiParam}
 use Rattle.esc_frame.specs.declared.machine.Machine.{Machine}
@@ -22,14 +22,6 @@ use Rattle.esc_frame.specs.Sequences.{is_from}
 -- what the machine may keep in a state: this holds of each, or of one
 abbrev pub InState : Type 1
 InState = (Unfinished → Type 0) → Type 0
-
--- the same, under a limit
-abbrev pub InStateUnder : Type 1
-InStateUnder = (Option ℕ → Unfinished → Type 0) → Type 0
-
--- under this limit
-abbrev pub UnderOne : Option ℕ → InState → InStateUnder
-UnderOne limit Keeping P = Keeping (P limit)
 
 -- between segments
 abbrev pub InGround : InState
@@ -63,11 +55,6 @@ pub record HasRunToPair (IsRun : List ℕ → Type 0) (rest : List ℕ) (run : �
   pub lead : slice_index rest run ≡ 0xc2
   pub control : is_from 0x80 0x9f (slice_index rest (run + 1)) ≡ true
 
--- The rest starts with ESC.
-pub record StartsWithEscape (rest : List ℕ) : Type 0 where
-  pub some : 0 < length rest
-  pub escape : slice_index rest 0 ≡ 0x1b
-
 -- The rest starts with ESC, this byte and another.
 pub record Opens (b : ℕ) (rest : List ℕ) : Type 0 where
   pub some : 2 < length rest
@@ -92,12 +79,9 @@ abbrev pub IsBetweenUnits : {K A : Type 0} → Machine K A → Type 0
 IsBetweenUnits machine = (machine.state ≡ state.Osc) × (prefix_of machine.pending ≡ [])
 
 -- the actor is ready, or awaits the events of the rest, where one of these is unfinished
-abbrev pub MayBeGivenUnder : {S : Type 0} → Actor S → InStateUnder → List ℕ → S → Type 0
-MayBeGivenUnder V Kept rest old =
-    V.is_ready old ⊎ Kept (λ limit u. Awaits V.may V.takes old (events_all limit u rest))
-
 abbrev pub MayBeGiven : {S : Type 0} → Actor S → InState → Option ℕ → List ℕ → S → Type 0
-MayBeGiven V Kept limit rest old = MayBeGivenUnder V (UnderOne limit Kept) rest old
+MayBeGiven V Kept limit rest old =
+    V.is_ready old ⊎ Kept (λ u. Awaits V.may V.takes old (events_all limit u rest))
 
 -- where not all strings in the rest can be borrowed
 abbrev pub AtUnborrowed : List ℕ → InState → InState
@@ -112,22 +96,14 @@ pub record TakesPart {T A S E : Type 0} (Keeping : InState) (K : Keeper T) (V : 
   -- one byte at least was
   pub count : Advances V result rest self actor
 
--- The same, of each limit and each unfinished segment that the first two say, and all bytes that
--- were taken but the last emit nothing and leave a segment unfinished.
-pub record TakesUnder {T A S E : Type 0} (Keeping Any : InStateUnder) (K : Keeper T) (V : Actor S)
+-- The same, and all bytes that were taken but the last emit nothing and leave a segment unfinished,
+-- whichever the second says was unfinished before.
+pub record TakesIn {T A S E : Type 0} (Keeping Any : InState) (K : Keeper T) (V : Actor S)
     (result : Result ℕ E) (rest : List ℕ) (self : Changed (Machine T A)) (actor : Changed S)
     : Type 0 where
-  pub took : Keeping (λ limit u. Consumes K V limit result u rest self actor)
-  pub quiet : Any (λ limit u. Quietly limit result u rest)
+  pub took : Keeping (λ u. Consumes K V self.entry.now.limit result u rest self actor)
+  pub quiet : Any (λ u. Quietly self.entry.now.limit result u rest)
   pub count : Advances V result rest self actor
-
--- the same, under the machine's limit
-abbrev pub TakesIn : {T A S E : Type 0} → InState → InState → Keeper T → Actor S → Result ℕ E
-    → List ℕ → Changed (Machine T A) → Changed S
-    → Type 0
-TakesIn Keeping Any K V result rest self actor =
-    TakesUnder (UnderOne self.entry.now.limit Keeping) (UnderOne self.entry.now.limit Any) K V
-    result rest self actor
 
 -- Bytes that leave nothing unfinished were taken in ground.
 pub record TakesInGround {T A S E : Type 0} (K : Keeper T) (V : Actor S) (result : Result ℕ E)
@@ -139,11 +115,4 @@ pub record TakesInGround {T A S E : Type 0} (K : Keeper T) (V : Actor S) (result
 pub record TakesQuietly {T A S E : Type 0} (K : Keeper T) (V : Actor S) (result : Result ℕ E)
     (rest : List ℕ) (self : Changed (Machine T A)) (actor : Changed S) : Type 0 where
   pub taken : TakesInGround K V result rest self actor
-  pub quiet : (limit : Option ℕ) → Quietly limit result Ground rest
-
--- One byte at least was, and the first event is that of the last.
-pub record TakesSequence {T A S E : Type 0} (K : Keeper T) (V : Actor S) (result : Result ℕ E)
-    (rest : List ℕ) (self : Changed (Machine T A)) (actor : Changed S) : Type 0 where
-  pub taken : TakesInGround K V result rest self actor
-  pub some : IfOk result (λ n. 0 < n)
   pub quiet : (limit : Option ℕ) → Quietly limit result Ground rest

@@ -1,26 +1,27 @@
 //! The machine in escape sequences and control sequences.
 #![tactic(auto)]
 
-ghost use Rattle.std.specs.Prelude.{◌≡◌, ◌⊎◌, ◌≤◌, ◌<◌, ◌++◌, ◌+◌, ℕ, List, Option, None, [], ◌∷◌, length, take, true, false, slice_index, IfOk, OnOk};
+ghost use Rattle.std.specs.Prelude.{◌≡◌, ◌⊎◌, ◌≤◌, ◌<◌, ◌++◌, ◌+◌, ℕ, List, Option, None, [], ◌∷◌, length, take, true, false, slice_index, OnOk};
 ghost use Rattle.std.specs.List.{list_all};
 ghost use Rattle.esc_frame.specs.Classes.{class_of};
 ghost use Rattle.esc_frame.specs.Events.Event.{EscDispatch};
 ghost use Rattle.esc_frame.specs.Leads.{Holds};
 ghost use Rattle.esc_frame.specs.Leads.Unfinished.{Ground};
-ghost use Rattle.esc_frame.specs.Machine.Keeping.{Holding, KeepingEscape, KeepingCsi, KeepingCsiAnd, AnyCsi};
-ghost use Rattle.esc_frame.specs.Machine.Allowed.{KeptBody, KeptCsi, KeptCsiAnd, KeptEscape, KeptSegment};
+ghost use Rattle.esc_frame.specs.Machine.Keeping.{Holding, KeepingEscape, KeepingCsi};
+ghost use Rattle.esc_frame.specs.Machine.Allowed.{KeptBody, KeptCsi, KeptEscape, KeptSegment};
 ghost use Rattle.esc_frame.specs.Events.{Awaits};
-ghost use Rattle.esc_frame.specs.Machine.Makes.{MayEmit, MayEmitAll, Emits, EmitsOne, Makes, Consumes, ConsumesSome, StaysReady};
+ghost use Rattle.esc_frame.specs.Machine.Makes.{MayEmit, MayEmitAll, Emits, EmitsOne, Makes, StaysReady};
 ghost use Rattle.esc_frame.specs.Machine.Keeps.{KeepsBody};
 ghost use Rattle.esc_frame.specs.Scans.{StartsFrom, is_body_byte};
-ghost use Rattle.esc_frame.specs.Machine.Moves.{events_all, move};
+ghost use Rattle.esc_frame.specs.Machine.Moves.{move};
 ghost use Rattle.esc_frame.specs.Segments.{csi_events, csi_event};
-ghost use Rattle.esc_frame.specs.Machine.Taking.{TakesQuietly, InAny, HasRun, AreAll, OpensCsi, StartsWithShortCsi, MayBeGiven, MayBeGivenUnder, TakesIn, TakesUnder, TakesSequence};
+ghost use Rattle.esc_frame.specs.Machine.Taking.{TakesQuietly, InAny, MayBeGiven, TakesIn};
 
 use crate::classes::{Class, Kind, classify};
 use crate::machine::{Machine, Result, State};
 use crate::taker::EventSink;
 use crate::unfinished::body::CsiBody;
+use crate::unfinished::fields::read_body;
 use crate::unfinished::store::TextRoom;
 use crate::utf8::sequence::{Pending, lies_from};
 use std::alloc::Allocator;
@@ -54,27 +55,6 @@ impl<K: TextRoom, A: Allocator> Machine<K, A> {
                     self.dispatch_escape(b, actor)
                 }
             }
-        }
-    }
-
-    /// The `\` after an ESC that ended a string; else nothing.
-    #[inline(always)]
-    pub fn parse_terminator<V: EventSink>(&mut self, rest: &[u8], actor: &mut V) -> Result<usize>
-        requires { V.is_ready actor.old ⊎ KeptSegment K.TextRoom self.old (λ u.
-            Awaits V.may V.takes actor.old (events_all self.old.limit u rest.now)) }
-        ensures took { Holding K.TextRoom self (λ u.
-            Consumes K.TextRoom V.EventSink self.old.limit result u rest.now self actor) }
-        ensures count { IfOk result (λ n. (n ≤ length rest.now)
-            × (V.is_ready actor.old → V.is_ready actor.new)
-            × (self.new.limit ≡ self.old.limit)) }
-    {
-        if rest.is_empty() || rest[0] != b'\\' {
-            return Ok(0);
-        }
-        if let State::Escape = self.state {
-            self.parse_in_escape(rest, actor)
-        } else {
-            Ok(0)
         }
     }
 
@@ -153,23 +133,6 @@ impl<K: TextRoom, A: Allocator> Machine<K, A> {
         }
     }
 
-    /// ESC and at least two bytes more, in ground: no control sequence that is short and whole.
-    #[inline(always)]
-    pub fn parse_escape<V: EventSink>(&mut self, rest: &[u8], actor: &mut V) -> Result<usize>
-        requires some { 2 < length rest.now }
-        requires escape { slice_index rest.now 0 ≡ 0x1b }
-        requires ready { MayEmit V.EventSink (events_all self.old.limit Ground rest.now) actor.old }
-        ensures { ConsumesSome K.TextRoom V.EventSink self.old.limit result rest.now self actor }
-    {
-        if rest[1] == b'[' {
-            self.parse_long_csi(rest, actor)
-        } else if rest[1] == b']' {
-            self.parse_osc(rest, actor)
-        } else {
-            self.parse_one_in_ground(rest, actor)
-        }
-    }
-
     /// A control sequence that is short and whole at the start of the bytes; else nothing.
     #[inline(always)]
     pub fn parse_short_csi<V: EventSink>(&mut self, rest: &[u8], actor: &mut V) -> Result<usize>
@@ -184,97 +147,26 @@ impl<K: TextRoom, A: Allocator> Machine<K, A> {
         if rest[1] != b'[' {
             return Ok(0);
         }
-        let run = self.short.read(&rest[2..]);
-        if run == rest.len() - 2 {
+        let body = read_body(&mut self.short, &rest[2..], true);
+        if !lies_from(0x40, 0x7e, body.after) {
             return Ok(0);
         }
-        if lies_from(0x40, 0x7e, rest[run + 2]) {
-            self.dispatch_short_csi(rest, run, actor)
-        } else {
-            Ok(0)
-        }
-    }
-
-    // A control sequence whose parameters were read.
-    #[inline(always)]
-    fn dispatch_short_csi<V: EventSink>(
-        &mut self,
-        rest: &[u8],
-        run: usize,
-        actor: &mut V,
-    ) -> Result<usize>
-        requires starts { StartsWithShortCsi (take self.old.short.count self.old.short.items)
-            rest.now run }
-        requires ground { Holds K.keeps None self.old Ground }
-        requires ready { MayEmitAll V.EventSink Ground rest.now actor.old }
-        ensures { TakesSequence K.TextRoom V.EventSink result rest.now self actor }
-    {
-        actor.csi_dispatch(self.short.as_slice(), false, rest[run + 2])?;
-        Ok(run + 3)
-    }
-
-    // A control sequence, up to its final byte or what else is not of its body.
-    fn parse_long_csi<V: EventSink>(&mut self, rest: &[u8], actor: &mut V) -> Result<usize>
-        requires opens { OpensCsi rest.now }
-        requires ready { MayEmitAll V.EventSink Ground rest.now actor.old }
-        ensures { (limit : Option ℕ)
-            → ConsumesSome K.TextRoom V.EventSink limit result rest.now self actor }
-    {
-        self.open(Kind::Csi);
-        let n = self.parse_in_csi(&rest[2..], actor)?;
-        Ok(2 + n)
+        actor.csi_dispatch(&self.short[..body.count], false, rest[body.length + 2])?;
+        Ok(body.length + 3)
     }
 
     /// The run of 20-3F in a control sequence, and the byte after it.
     #[inline(always)]
     pub fn parse_in_csi<V: EventSink>(&mut self, rest: &[u8], actor: &mut V) -> Result<usize>
         requires some { 0 < length rest.now }
-        requires ready { MayBeGivenUnder V.EventSink (KeptCsi self.old) rest.now actor.old }
+        requires ready { MayBeGiven V.EventSink (KeptSegment K.TextRoom self.old)
+            self.old.limit rest.now actor.old }
         requires state { self.old.state ≡ State.Csi }
-        ensures { TakesUnder (KeepingCsi self) AnyCsi
+        ensures { TakesIn (Holding K.TextRoom self) (Holding K.TextRoom self)
             K.TextRoom V.EventSink result rest.now self actor }
     {
         let run = push_run(&mut self.body, rest);
-        self.parse_after_body(rest, run, actor)
-    }
-
-    // The byte after a run in a control sequence that was kept.
-    #[inline(always)]
-    fn parse_after_body<V: EventSink>(
-        &mut self,
-        rest: &[u8],
-        run: usize,
-        actor: &mut V,
-    ) -> Result<usize>
-        requires run { HasRun (AreAll is_body_byte) rest.now run }
-        requires ready { MayBeGivenUnder V.EventSink (KeptCsiAnd (take run rest.now) self.old)
-            rest.now actor.old }
-        requires state { self.old.state ≡ State.Csi }
-        ensures { TakesUnder (KeepingCsiAnd (take run rest.now) self) AnyCsi
-            K.TextRoom V.EventSink result rest.now self actor }
-    {
-        if run == rest.len() {
-            return Ok(run);
-        }
-        self.end_body(rest[run], actor)?;
-        Ok(run + 1)
-    }
-
-    // A byte of a control sequence, which most often is its final byte.
-    #[inline(always)]
-    fn end_body<V: EventSink>(&mut self, b: u8, actor: &mut V) -> Result<()>
-        requires { V.is_ready actor.old ⊎ KeptCsi self.old (λ limit u.
-            Awaits V.may V.takes actor.old (move limit u b (class_of b)).1) }
-        ensures moved { KeepingCsi self (λ limit u.
-            Makes K.TextRoom V.EventSink limit false result (move limit u b (class_of b)) self
-            actor) }
-        ensures ready { StaysReady V.EventSink result self actor }
-    {
-        if 0x40 <= b && b <= 0x7e {
-            self.dispatch_csi(b, actor)
-        } else {
-            self.in_csi(b, classify(b), actor)
-        }
+        self.step_after(rest, run, actor)
     }
 }
 

@@ -10,7 +10,7 @@ ghost use Rattle.esc_frame.specs.Machine.Makes.{MayEmit, MayEmitAll, Makes, Alwa
 ghost use Rattle.esc_frame.specs.Machine.Moves.{events_all, emitting, ground_move, pair_move, pending_move};
 ghost use Rattle.esc_frame.specs.Events.Event.{Print};
 ghost use Rattle.esc_frame.specs.Sequences.{outcome, is_sequence};
-ghost use Rattle.esc_frame.specs.Machine.Taking.{InGround, StartsWithEscape, TakesInGround, TakesPart};
+ghost use Rattle.esc_frame.specs.Machine.Taking.{InGround, TakesInGround, TakesPart, TakesQuietly};
 
 use crate::classes::{Breaker, Class, classify};
 use crate::machine::{Machine, Result, State};
@@ -185,7 +185,8 @@ impl<K: TextRoom, A: Allocator> Machine<K, A> {
         }
     }
 
-    /// Characters, and what follows them.
+    /// Characters, controls and short control sequences, as long as they come, and what follows
+    /// them: an operating system command, or a byte.
     #[inline(always)]
     pub fn parse_in_ground<V: EventSink>(&mut self, rest: &[u8], actor: &mut V) -> Result<usize>
         requires some { 0 < length rest.now }
@@ -193,25 +194,13 @@ impl<K: TextRoom, A: Allocator> Machine<K, A> {
         requires ground { Holds K.keeps self.old.limit self.old Ground }
         ensures { TakesPart InGround K.TextRoom V.EventSink result rest.now self actor }
     {
-        let printed = self.take_quick(rest, actor)?;
-        if printed == rest.len() {
-            return Ok(printed);
-        }
-        let n = self.parse_with_terminator(&rest[printed..], actor)?;
-        Ok(printed + n)
-    }
-
-    // Characters, controls and short control sequences, as long as they come.
-    #[inline(always)]
-    fn take_quick<V: EventSink>(&mut self, rest: &[u8], actor: &mut V) -> Result<usize>
-        requires ready { MayEmitAll V.EventSink Ground rest.now actor.old }
-        requires ground { Holds K.keeps None self.old Ground }
-        ensures { TakesInGround K.TextRoom V.EventSink result rest.now self actor }
-    {
         let mut at = 0;
         while at < rest.len() {
-            match self.take_quick_one(&rest[at..], actor) {
-                Ok(0) => return Ok(at),
+            match self.parse_fast(&rest[at..], actor) {
+                Ok(0) => {
+                    let n = self.parse_osc_or_byte(&rest[at..], actor)?;
+                    return Ok(at + n);
+                }
                 Ok(n) => at += n,
                 Err(e) => return Err(e),
             }
@@ -221,7 +210,7 @@ impl<K: TextRoom, A: Allocator> Machine<K, A> {
 
     // Characters, a control, or a short control sequence; nothing where something else comes.
     #[inline(always)]
-    fn take_quick_one<V: EventSink>(&mut self, rest: &[u8], actor: &mut V) -> Result<usize>
+    fn parse_fast<V: EventSink>(&mut self, rest: &[u8], actor: &mut V) -> Result<usize>
         requires some { 0 < length rest.now }
         requires ready { MayEmitAll V.EventSink Ground rest.now actor.old }
         requires ground { Holds K.keeps None self.old Ground }
@@ -245,52 +234,37 @@ impl<K: TextRoom, A: Allocator> Machine<K, A> {
         requires ground { Holds K.keeps self.old.limit self.old Ground }
         ensures { ConsumesSome K.TextRoom V.EventSink self.old.limit result rest.now self actor }
     {
+        match self.first_fast(rest, actor) {
+            Ok(0) => self.parse_osc_or_byte(rest, actor),
+            Ok(n) => Ok(n),
+            Err(e) => Err(e),
+        }
+    }
+
+    // A character, or a short control sequence; nothing where something else comes.
+    #[inline(always)]
+    fn first_fast<V: EventSink>(&mut self, rest: &[u8], actor: &mut V) -> Result<usize>
+        requires some { 0 < length rest.now }
+        requires ready { MayEmitAll V.EventSink Ground rest.now actor.old }
+        requires ground { Holds K.keeps None self.old Ground }
+        ensures { TakesQuietly K.TextRoom V.EventSink result rest.now self actor }
+    {
         if rest[0] == 0x1b {
-            return self.parse_sequence(rest, actor);
-        }
-        match print_first(rest, actor) {
-            Ok(0) => self.parse_one_in_ground(rest, actor),
-            Ok(n) => Ok(n),
-            Err(e) => Err(e),
+            self.parse_short_csi(rest, actor)
+        } else {
+            print_first(rest, actor)
         }
     }
 
-    // ESC, and the sequence that it begins.
+    // An operating system command that ESC opens, or a byte.
     #[inline(always)]
-    fn parse_sequence<V: EventSink>(&mut self, rest: &[u8], actor: &mut V) -> Result<usize>
-        requires starts { StartsWithEscape rest.now }
-        requires ready { MayEmit V.EventSink (events_all self.old.limit Ground rest.now) actor.old }
-        requires ground { Holds K.keeps self.old.limit self.old Ground }
-        ensures { ConsumesSome K.TextRoom V.EventSink self.old.limit result rest.now self actor }
-    {
-        match self.parse_short_csi(rest, actor) {
-            Ok(0) => self.parse_control(rest, actor),
-            Ok(n) => Ok(n),
-            Err(e) => Err(e),
-        }
-    }
-
-    // A byte, or a sequence that ESC begins, and the terminator of a command.
-    #[inline(always)]
-    fn parse_with_terminator<V: EventSink>(&mut self, rest: &[u8], actor: &mut V) -> Result<usize>
-        requires some { 0 < length rest.now }
-        requires ready { MayEmit V.EventSink (events_all self.old.limit Ground rest.now) actor.old }
-        ensures { TakesPart InGround K.TextRoom V.EventSink result rest.now self actor }
-    {
-        let n = self.parse_control(rest, actor)?;
-        let more = self.parse_terminator(&rest[n..], actor)?;
-        Ok(n + more)
-    }
-
-    // A byte, or a sequence that ESC begins, in ground.
-    #[inline(always)]
-    fn parse_control<V: EventSink>(&mut self, rest: &[u8], actor: &mut V) -> Result<usize>
+    fn parse_osc_or_byte<V: EventSink>(&mut self, rest: &[u8], actor: &mut V) -> Result<usize>
         requires some { 0 < length rest.now }
         requires ready { MayEmit V.EventSink (events_all self.old.limit Ground rest.now) actor.old }
         ensures { ConsumesSome K.TextRoom V.EventSink self.old.limit result rest.now self actor }
     {
-        if rest[0] == 0x1b && rest.len() > 2 {
-            self.parse_escape(rest, actor)
+        if rest.len() > 2 && rest[0] == 0x1b && rest[1] == b']' {
+            self.parse_osc(rest, actor)
         } else {
             self.parse_one_in_ground(rest, actor)
         }

@@ -1,14 +1,14 @@
 //! The machine in operating system commands.
 #![tactic(auto)]
 
-ghost use Rattle.std.specs.Prelude.{◌≡◌, ◌⊎◌, ◌++◌, ◌<◌, List, ◌+◌, true, false, not, length, take, slice_index, OnOk, IsTrue};
+ghost use Rattle.std.specs.Prelude.{◌≡◌, ◌⊎◌, ◌++◌, ◌<◌, List, ◌+◌, true, false, not, length, slice_index, OnOk, IsTrue};
 ghost use Rattle.esc_frame.specs.Classes.{class_of};
 ghost use Rattle.esc_frame.specs.Limits.{has_few_parts};
 ghost use Rattle.esc_frame.specs.Leads.Unfinished.{Ground};
 ghost use Rattle.esc_frame.specs.Machine.Calls.{Stops};
 ghost use Rattle.esc_frame.specs.Machine.Prefixes.{prefix_of};
-ghost use Rattle.esc_frame.specs.Machine.Keeping.{StoresText, KeepingText, KeepingOsc, KeepingOscAnd, KeepingOscPending, FreshOsc, AnyOsc};
-ghost use Rattle.esc_frame.specs.Machine.Allowed.{KeptOscUnits, KeptOsc, KeptOscAnd, KeptOscPending, KeptText, NewOsc};
+ghost use Rattle.esc_frame.specs.Machine.Keeping.{StoresText, KeepingText, KeepingOsc, KeepingOscPending, FreshOsc, AnyOsc};
+ghost use Rattle.esc_frame.specs.Machine.Allowed.{KeptOscUnits, KeptOsc, KeptOscPending, KeptText, NewOsc};
 ghost use Rattle.esc_frame.specs.Events.{Awaits};
 ghost use Rattle.esc_frame.specs.Machine.Makes.{MayEmit, Emits, Makes, AlwaysMakes, ConsumesSome, StaysReady};
 ghost use Rattle.esc_frame.specs.Machine.Moves.{events_all, emitting, ground_move, pair_move, osc_pending_move, osc_left, ends_osc, move};
@@ -285,30 +285,7 @@ impl<K: TextRoom, A: Allocator> Machine<K, A> {
             K.TextRoom V.EventSink result rest.now self actor }
     {
         self.text.push(self.limit, &rest[..run])?;
-        self.parse_after_text(rest, run, actor)
-    }
-
-    // The byte after units of an operating system command that were kept.
-    #[inline(always)]
-    fn parse_after_text<V: EventSink>(
-        &mut self,
-        rest: &[u8],
-        run: usize,
-        actor: &mut V,
-    ) -> Result<usize>
-        requires run { HasRun IsTextRun rest.now run }
-        requires ready { MayBeGiven V.EventSink (KeptOscAnd K.TextRoom (take run rest.now) self.old)
-            self.old.limit rest.now actor.old }
-        requires state { IsBetweenUnits self.old }
-        ensures { TakesIn (AtUnborrowed rest.now
-            (KeepingOscAnd K.TextRoom (take run rest.now) self))
-            AnyOsc K.TextRoom V.EventSink result rest.now self actor }
-    {
-        if run == rest.len() {
-            return Ok(run);
-        }
-        self.in_osc(rest[run], classify(rest[run]), actor)?;
-        Ok(run + 1)
+        self.step_after(rest, run, actor)
     }
 }
 

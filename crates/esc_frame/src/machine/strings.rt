@@ -2,10 +2,10 @@
 //! device control strings whose header has another form.
 #![tactic(auto)]
 
-ghost use Rattle.std.specs.Prelude.{◌≡◌, ◌⊎◌, ◌++◌, [], cond, ◌<◌, Bool, true, false, length, take, OnOk};
+ghost use Rattle.std.specs.Prelude.{◌≡◌, ◌⊎◌, ◌++◌, [], cond, ◌<◌, Bool, true, false, length, OnOk};
 ghost use Rattle.esc_frame.specs.Classes.{class_of, is_breaker};
-ghost use Rattle.esc_frame.specs.Machine.Keeping.{Holding, KeepingText, KeepingApc, KeepingApcAnd, FreshApc, AnyApc, InDcsIgnore, InIgnoredString};
-ghost use Rattle.esc_frame.specs.Machine.Allowed.{KeptApc, KeptApcAnd, KeptSegment, KeptText, NewApc};
+ghost use Rattle.esc_frame.specs.Machine.Keeping.{Holding, KeepingText, KeepingApc, FreshApc, AnyApc, InDcsIgnore, InIgnoredString};
+ghost use Rattle.esc_frame.specs.Machine.Allowed.{KeptApc, KeptSegment, KeptText, NewApc};
 ghost use Rattle.esc_frame.specs.Events.{Awaits};
 ghost use Rattle.esc_frame.specs.Machine.Makes.{MayEmit, Emits, Makes, StaysReady};
 ghost use Rattle.esc_frame.specs.Machine.Moves.{emitting, ground_move, move};
@@ -118,30 +118,7 @@ impl<K: TextRoom, A: Allocator> Machine<K, A> {
             K.TextRoom V.EventSink result rest.now self actor }
     {
         self.text.push(self.limit, &rest[..run])?;
-        self.parse_after_apc(rest, run, actor)
-    }
-
-    // The byte after a run in an application program command that was kept.
-    #[inline(always)]
-    fn parse_after_apc<V: EventSink>(
-        &mut self,
-        rest: &[u8],
-        run: usize,
-        actor: &mut V,
-    ) -> Result<usize>
-        requires run { HasRun (AreAll is_text_byte) rest.now run }
-        requires ready { MayBeGiven V.EventSink (KeptApcAnd K.TextRoom (take run rest.now) self.old)
-            self.old.limit rest.now actor.old }
-        requires state { self.old.state ≡ State.Apc }
-        ensures { TakesIn (AtUnborrowed rest.now
-            (KeepingApcAnd K.TextRoom (take run rest.now) self))
-            AnyApc K.TextRoom V.EventSink result rest.now self actor }
-    {
-        if run == rest.len() {
-            return Ok(run);
-        }
-        self.in_apc(rest[run], classify(rest[run]), actor)?;
-        Ok(run + 1)
+        self.step_after(rest, run, actor)
     }
 
     // A text, and the breaker that ends it.

@@ -68,15 +68,6 @@ module _ (room place : ℕ) (less : room ≤ place) where
   if_first true e h = h refl
   if_first false e h = tt
 
-  if_waits : (t : Bool) (e : Event) → can_wait e ≡ true → Waits (if t then e ∷ [] else [])
-  if_waits true e h = h
-  if_waits false e h = tt
-
-  waits_first : (xs : List Event) → Waits xs → First xs
-  waits_first [] w = tt
-  waits_first (x ∷ []) w = waits_room x w
-  waits_first (x ∷ y ∷ xs) w = absurd w
-
   -- ---- a byte in ground
 
   ground_waits : (b : ℕ) (c : Class) → Waits (ground_move b c).1

@@ -71,15 +71,7 @@ unbroken false h = refl
 
 no_breaker : (c : Class) → is_text c ≡ true → is_breaker c ≡ false
 no_breaker (Breaks k) h = absurd cc
-no_breaker C0 h = refl
-no_breaker Bell h = refl
-no_breaker High h = refl
-no_breaker Lead h = refl
-no_breaker Intermediate h = refl
-no_breaker Parameter h = refl
-no_breaker (Introducer k) h = refl
-no_breaker Final h = refl
-no_breaker Delete h = refl
+no_breaker _ h = refl
 
 pub text_goes_on : (b : ℕ) → is_text_byte b ≡ true → is_breaker (class_of b) ≡ false
 text_goes_on b h = no_breaker (class_of b) (text_class b h)

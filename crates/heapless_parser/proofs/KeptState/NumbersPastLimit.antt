@@ -14,7 +14,6 @@ use Rattle.esc_frame.specs.Machine.Moves.{after_all, events_all, move_inside, go
 use Rattle.esc_frame.specs.Machine.Taking.{OpensOsc}
 use Rattle.esc_frame.specs.Segments.{Opener, text_of, is_empty, hook_event}
 use Rattle.esc_frame.specs.Segments.Opener.{Long}
-use Rattle.esc_frame.specs.declared.machine.State.{State}
 use Rattle.esc_frame.specs.declared.machine.State.TheVariants as state
 use Rattle.esc_frame.proofs.Borrow.BytesAreLent.{not_both}
 use Rattle.esc_frame.proofs.Cut.OneByteMore.{last_shift}
@@ -30,7 +29,7 @@ use Rattle.heapless_parser.specs.Numbers.{state_numbered, form_numbered, begun_b
 use Rattle.heapless_parser.specs.States.{KeptIn, TextIn, HeaderIn, begun_in}
 use Rattle.heapless_parser.specs.Strings.{HasLeft, EndsString, IsQuiet, NotesLimit}
 use Rattle.heapless_parser.proofs.EventNotes.LimitAddsNoEvent.{none_of, is_osc, is_blank_osc, hands_osc, osc_fewer, is_apc, any, hands_apc, apc_fewer, fewer_then}
-use Rattle.heapless_parser.proofs.KeptState.UnfinishedByState.{ground_only}
+use Rattle.heapless_parser.proofs.KeptState.UnfinishedByState.{ground_only, kept_both}
 use Rattle.heapless_parser.proofs.KeptState.StateHasOnly.{in_osc_only, in_apc_only, in_header_only}
 
 -- ---- the number of a state, and of a form
@@ -230,27 +229,13 @@ limited_by before p q e memory later out u x is some kept after emits quiet
 
 -- ---- what is noted of it
 
-kept_due : (p : EscParser) (kind value : ℕ) (memory : List ℕ) (u : Unfinished)
-    → KeptIn p memory u
-    → KeptIn (record p { queued_kind = kind; queued_value = value }) memory u
-kept_due p kind value memory Ground h = h
-kept_due p kind value memory (Pending f) h = h
-kept_due p kind value memory (InEscape x) h = h
-kept_due p kind value memory (InCsi o x) h = h
-kept_due p kind value memory (InDcs o x) h = h
-kept_due p kind value memory (InData o x f d) h = h
-kept_due p kind value memory (InApc o d) h = h
-kept_due p kind value memory (InIgnored k o d) h = h
-kept_due p kind value memory (InOsc o ps) h = h
-kept_due p kind value memory (InOscPending o ps f) h = h
-
 pub kept_noted : (before : Place) (q r : EscParser) (e f : EscEvent) (x memory : List ℕ)
     (u : Unfinished) → NotesLimit before q r e f x → KeptIn q memory u → KeptIn r memory u
 kept_noted before q r e f x memory u (inl (s, _)) h = subst (λ w. KeptIn w memory u) (sym s) h
 kept_noted before q r e f x memory u (inr (_, _, _, inl (_, s))) h =
     subst (λ w. KeptIn w memory u) (sym s) h
 kept_noted before q r e f x memory u (inr (_, _, _, inr (_, s))) h =
-    subst (λ w. KeptIn w memory u) (sym s) (kept_due q 3 e.byte memory u h)
+    subst (λ w. KeptIn w memory u) (sym s) (kept_both q 3 e.byte memory u h)
 
 pub limited_noted : (before : Place) (p q r : EscParser) (e f : EscEvent)
     (memory later out : List ℕ) (u : Unfinished) (x : List ℕ)

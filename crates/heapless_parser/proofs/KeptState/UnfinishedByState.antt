@@ -2,11 +2,9 @@
 use Rattle.std.proofs.Common.{ℕ, ◌≡◌, true, true≢false, false, List, [], map, take, length, refl, ap, sym, ◌∙◌, subst, Some, if◌then◌else◌}
 use Rattle.std.specs.List.{list_all, prefix_len}
 use Rattle.std.specs.Str.{chars}
-use Rattle.esc_frame.specs.Classes.{without_noise}
 use Rattle.esc_frame.specs.Events.Event.{Print}
 use Rattle.esc_frame.specs.Leads.{Unfinished}
 use Rattle.esc_frame.specs.Leads.Unfinished.{Ground, Pending, InEscape, InCsi, InOsc, InOscPending, InDcs, InData, InApc, InIgnored}
-use Rattle.esc_frame.specs.Limits.{is_read}
 use Rattle.esc_frame.specs.Machine.Moves.{after_all, events_all}
 use Rattle.esc_frame.specs.Scans.{is_data_byte}
 use Rattle.esc_frame.specs.Segments.{Opener, is_empty}
@@ -97,12 +95,4 @@ given_still p q r e out memory later after x same kept gives =
 pub kept_both : (p : EscParser) (kind value : ℕ) (memory : List ℕ) (u : Unfinished)
     → KeptIn p memory u → KeptIn (record p { queued_kind = kind; queued_value = value }) memory u
 kept_both p kind value memory Ground h = h
-kept_both p kind value memory (Pending f) h = h
-kept_both p kind value memory (InEscape x) h = h
-kept_both p kind value memory (InCsi o x) h = h
-kept_both p kind value memory (InDcs o x) h = h
-kept_both p kind value memory (InData o x f d) h = h
-kept_both p kind value memory (InApc o d) h = h
-kept_both p kind value memory (InIgnored k o d) h = h
-kept_both p kind value memory (InOsc o ps) h = h
-kept_both p kind value memory (InOscPending o ps f) h = h
+kept_both p kind value memory _ h = h

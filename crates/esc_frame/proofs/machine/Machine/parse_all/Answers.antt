@@ -23,11 +23,11 @@ loop-at-preserved g c =
           ran_took c.args.self.now.limit g.V.EventSink.takes g.V.EventSink.refuses u v bs i
           c.args.actor.now
           _ _ refl
-          p.1 g.K.TextRoom.keeps c.take.new.self c.in_ok-n.n p.2
+          p.1 g.K.TextRoom.keeps c.parse_run.new.self c.in_ok-n.n p.2
           (took_under {E = Unit {0}} g.K.TextRoom.keeps
           (Fails g.K.TextRoom.may_fail g.V.EventSink.stops g.row.A.Denot) g.V.EventSink.takes
           g.V.EventSink.refuses
-          (Ok c.in_ok-n.n) v _ c.take.new.self _ _ same
+          (Ok c.in_ok-n.n) v _ c.parse_run.new.self _ _ same
           (c.in_ok-n.ensures.took v
           (subst (λ l. Holds g.K.TextRoom.keeps l c.loop-at.self v) (sym same) p.0))),
       c.in_ok-n.ensures.count.3 ∙ same,
@@ -48,12 +48,12 @@ returns-in_err-n-clause-emitted g c = λ u h.
     (took_under g.K.TextRoom.keeps
     (Fails g.K.TextRoom.may_fail g.V.EventSink.stops g.row.A.Denot) g.V.EventSink.takes
     g.V.EventSink.refuses
-    (Err (tt {0})) v _ c.take.new.self _ _ same
+    (Err (tt {0})) v _ c.parse_run.new.self _ _ same
     (c.in_err-n.ensures.took v
     (subst (λ l. Holds g.K.TextRoom.keeps l c.loop-at.self v) (sym same) p.0))))
 
-pub take-requires-clause-ready : goal.take-requires-clause-ready
-take-requires-clause-ready g c =
+pub parse_run-requires-clause-ready : goal.parse_run-requires-clause-ready
+parse_run-requires-clause-ready g c =
     let i = c.loop-at.at in
     let bs = c.args.bytes.now in
     let same = c.loop-at.invariant.3 in
