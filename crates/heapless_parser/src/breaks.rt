@@ -25,7 +25,7 @@ pub const REPLACEMENT: u32 = 0xfffd;
 
 /// Takes a byte as between sequences, and returns what it gives.
 #[inline(always)]
-pub fn take_byte(parser: &mut EscParser, byte: u8) -> Single
+pub fn in_ground(parser: &mut EscParser, byte: u8) -> Single
     ensures kept { KeepsAfter parser.new (ground_move byte (class_of byte)) }
     ensures given { queued_of result.kind result.value ≡ (ground_move byte (class_of byte)).1 }
     ensures kind { (result.kind ≡ NONE) ⊎ (result.kind ≡ CHARACTER) ⊎ (result.kind ≡ CONTROL) }
@@ -68,7 +68,7 @@ pub fn cancel(parser: &mut EscParser, byte: u8, event: &mut EscEvent)
     ensures moves { Makes parser event.new (ground_move byte (class_of byte)) }
     ensures noted { NotesSingle CHARACTER CONTROL event }
 {
-    let single = take_byte(parser, byte);
+    let single = in_ground(parser, byte);
     event.kind = single.kind;
     event.byte = single.value;
 }

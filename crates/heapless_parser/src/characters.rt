@@ -11,7 +11,7 @@ ghost use Rattle.heapless_parser.specs.Takes.{GivesByte, NotesSingle, TakesByte}
 
 use crate::breaks::{REPLACEMENT, note_pair};
 use crate::event::{CHARACTER, CONTROL, EscEvent, NONE};
-use crate::leaving::take_after;
+use crate::leaving::queue_in_ground;
 use crate::numbers::{GROUND, numbers_of_pending, pending_in};
 use crate::parser::EscParser;
 use esc_frame::utf8::sequence::{Outcome, Pending};
@@ -85,7 +85,7 @@ pub fn note_broken(parser: &mut EscParser, byte: u8, event: &mut EscEvent)
     ensures event { event.new ≡ record event.old { kind = CHARACTER; byte = REPLACEMENT } }
     ensures takes { GivesByte parser event.new byte }
 {
-    take_after(parser, byte);
+    queue_in_ground(parser, byte);
     event.kind = CHARACTER;
     event.byte = REPLACEMENT;
 }

@@ -10,7 +10,7 @@ ghost use Rattle.heapless_parser.specs.Emitted.{queued_of};
 ghost use Rattle.heapless_parser.specs.Noted.{IsSound};
 ghost use Rattle.heapless_parser.specs.Takes.{GivesByte, IsInRoom, KeepsAfter, Leaves, NotesText};
 
-use crate::breaks::take_byte;
+use crate::breaks::in_ground;
 use crate::event::{APC, DCS_END, EscEvent, NONE, OSC};
 use crate::numbers::{APC_STATE, DATA_STATE, OSC_STATE};
 use crate::parser::EscParser;
@@ -27,13 +27,13 @@ pub fn is_breaker(byte: u8) -> bool
 
 /// Takes a byte as between sequences. What it gives is handed out after another event.
 #[inline(always)]
-pub fn take_after(parser: &mut EscParser, byte: u8)
+pub fn queue_in_ground(parser: &mut EscParser, byte: u8)
     ensures kept { KeepsAfter parser.new (ground_move byte (class_of byte)) }
     ensures queued { queued_of parser.new.queued_kind parser.new.queued_value
         ≡ (ground_move byte (class_of byte)).1 }
     ensures failed { parser.new.has_failed ≡ parser.old.has_failed }
 {
-    let single = take_byte(parser, byte);
+    let single = in_ground(parser, byte);
     parser.queued_kind = single.kind;
     parser.queued_value = single.value;
 }
@@ -59,7 +59,7 @@ fn leave_text(
         return false;
     }
     put_text(out, event, kind, &memory[..count]);
-    take_after(parser, byte);
+    queue_in_ground(parser, byte);
     true
 }
 
@@ -71,7 +71,7 @@ fn leave_data(parser: &mut EscParser, byte: u8, event: &mut EscEvent)
     ensures event { event.new ≡ record event.old { kind = DCS_END } }
     ensures takes { GivesByte parser event.new byte }
 {
-    take_after(parser, byte);
+    queue_in_ground(parser, byte);
     event.kind = DCS_END;
 }
 

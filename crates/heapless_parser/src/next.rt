@@ -35,7 +35,7 @@ fn give_queued(parser: &mut EscParser, event: &mut EscEvent) -> bool
 // Takes bytes up to the first event, or all of them. After a failure nothing is said of how many
 // were taken.
 #[inline(always)]
-fn take_next(
+fn next_event(
     parser: &mut EscParser,
     memory: &mut [u8],
     out: &mut [u8],
@@ -54,13 +54,13 @@ fn take_next(
         event.start = 0;
         first
     } else {
-        take_on(parser, memory, out, bytes, event)
+        advance_to_event(parser, memory, out, bytes, event)
     }
 }
 
 // The same, out of the way of what needs no machine.
 #[inline(never)]
-fn take_on(
+fn advance_to_event(
     parser: &mut EscParser,
     memory: &mut [u8],
     out: &mut [u8],
@@ -104,7 +104,7 @@ fn next_in(
     if give_queued(parser, event) {
         return 0;
     }
-    take_next(parser, memory, out, bytes, event)
+    next_event(parser, memory, out, bytes, event)
 }
 
 /// Takes bytes of a stream up to the next event, notes the event, and returns how many bytes were
@@ -204,7 +204,7 @@ fn next_on(
         → NeverFails parser.old memory.old event.new }
 {
     event.clear();
-    take_on(parser, memory, out, bytes, event)
+    advance_to_event(parser, memory, out, bytes, event)
 }
 
 // Whether no segment is unfinished, and nothing is still to be handed out.

@@ -3,7 +3,7 @@ use Rattle.esc_frame.specs.declared.classes.Class.TheVariants.{Breaks}
 use Rattle.esc_frame.specs.Machine.Moves.{ground_move}
 use Rattle.esc_frame.specs.Segments.Opener.{Raw}
 use Rattle.heapless_parser.specs.States.{KeptIn}
-use Rattle.heapless_parser.proofs.breaks.take_byte.Goals as goal
+use Rattle.heapless_parser.proofs.breaks.in_ground.Goals as goal
 
 pub returns-in-Breaks-C1Introducer-clause-kept : goal.returns-in-Breaks-C1Introducer-clause-kept
 returns-in-Breaks-C1Introducer-clause-kept c = λ memory.

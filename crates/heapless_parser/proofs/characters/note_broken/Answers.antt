@@ -6,7 +6,7 @@ pub returns-clause-takes : goal.returns-clause-takes
 returns-clause-takes c = record {
   failed = search rules;
   gives = λ out memory.
-      let take = c.take_after in
+      let take = c.queue_in_ground in
       broken_gives c.args.parser.now take.new.parser
       (record c.args.event.now { kind = 2; byte = 0xfffd }) c.args.byte c.requires.ground
       c.requires.broken c.requires.some take.ensures.kept take.ensures.queued refl refl out memory;

@@ -6,7 +6,7 @@ pub returns-clause-takes : goal.returns-clause-takes
 returns-clause-takes c = record {
   failed = search rules;
   gives = λ out memory.
-      let take = c.take_after in
+      let take = c.queue_in_ground in
       data_left c.args.parser.now take.new.parser (record c.args.event.now { kind = 10 }) memory out
       c.args.byte c.requires.breaks (take.ensures.kept memory) take.ensures.queued
       c.requires.state refl;

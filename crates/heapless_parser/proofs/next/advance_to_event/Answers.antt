@@ -4,7 +4,7 @@ use Rattle.heapless_parser.specs.Limited.{IsLimited}
 use Rattle.heapless_parser.specs.States.{KeptIn}
 use Rattle.heapless_parser.specs.Emitted.{queued_of, is_run}
 use Rattle.heapless_parser.proofs.InChunks.SeveralStepsAreOne.{utf8_placed, after_both, events_both, emitted_placed, says_nothing, limited_both}
-use Rattle.heapless_parser.proofs.next.take_on.Goals as goal
+use Rattle.heapless_parser.proofs.next.advance_to_event.Goals as goal
 
 pub returns-then-event-ne-NONE : goal.returns-then-event-ne-NONE
 returns-then-event-ne-NONE c = record {

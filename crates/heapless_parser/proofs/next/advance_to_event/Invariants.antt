@@ -3,7 +3,7 @@ use Rattle.esc_frame.specs.Leads.{Unfinished}
 use Rattle.esc_frame.specs.Machine.Moves.{after_all, events_all}
 use Rattle.heapless_parser.specs.States.{KeptIn}
 use Rattle.heapless_parser.specs.Emitted.{queued_of}
-use Rattle.heapless_parser.proofs.next.take_on.Given as goal
+use Rattle.heapless_parser.proofs.next.advance_to_event.Given as goal
 
 abbrev pub invariant-loop-at : goal.invariant-loop-at
 invariant-loop-at l = record {

@@ -35,19 +35,19 @@ returns-clause-holds c = record {
       (c.give_queued.ensures.emitted c.args.out.now [])
       ∙ says_nothing c.give_queued.new.event c.args.out.now _
       (c.give_queued.ensures.none c.if-give_queued.false) in
-      at_more s c.args.bytes.now c.take_next.result es c.args.parser.now c.take_next.new.parser
-      c.args.memory.now c.take_next.new.memory _ c.take_next.auto.memory
-      (c.take_next.ensures.goes_on ne ∙ c.give_queued.ensures.failed) was
-      (λ u k. c.take_next.ensures.kept u
+      at_more s c.args.bytes.now c.next_event.result es c.args.parser.now c.next_event.new.parser
+      c.args.memory.now c.next_event.new.memory _ c.next_event.auto.memory
+      (c.next_event.ensures.goes_on ne ∙ c.give_queued.ensures.failed) was
+      (λ u k. c.next_event.ensures.kept u
       (c.give_queued.ensures.kept c.args.memory.now u k) ne)
-      (λ u k. c.take_next.ensures.says u
+      (λ u k. c.next_event.ensures.says u
       (c.give_queued.ensures.kept c.args.memory.now u k) ne)
       h;
   all = search rules;
   moves = search rules;
   limited = λ s es h k.
-      adds_fewer (length c.args.memory.now) s (take c.take_next.result c.args.bytes.now)
-      (c.take_next.ensures.limited (after_all Ground s)
+      adds_fewer (length c.args.memory.now) s (take c.next_event.result c.args.bytes.now)
+      (c.next_event.ensures.limited (after_all Ground s)
       (c.give_queued.ensures.kept c.args.memory.now (after_all Ground s)
       (kept_at s es c.args.parser.now c.args.memory.now h)) k);
   failed = search rules;
@@ -61,4 +61,4 @@ returns-then-parser-clause-sound c = λ less s es h. absurd (false≢true (sym h
 pub returns-clause-sound : goal.returns-clause-sound
 unfolding HasConsumed
 returns-clause-sound c = λ less s es h.
-    c.take_next.ensures.sound _ (c.give_queued.ensures.kept c.args.memory.now _ h.1) less
+    c.next_event.ensures.sound _ (c.give_queued.ensures.kept c.args.memory.now _ h.1) less

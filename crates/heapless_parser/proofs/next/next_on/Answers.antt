@@ -13,7 +13,7 @@ returns-clause-holds c = record {
   utf8 = search rules;
   given = λ s es h ne.
       let p = c.args.parser.now in
-      let t = c.take_on in
+      let t = c.advance_to_event in
       let was : queued_of p.queued_kind p.queued_value ≡ [] =
       ap (λ k. queued_of k p.queued_value) c.requires.settled.1 in
       at_more s c.args.bytes.now t.result es p t.new.parser c.args.memory.now t.new.memory _
@@ -23,12 +23,13 @@ returns-clause-holds c = record {
   moves = search rules;
   limited = λ s es h k.
       let m = c.args.memory.now in
-      adds_fewer (length m) s (take c.take_on.result c.args.bytes.now)
-      (c.take_on.ensures.limited (after_all Ground s) (kept_at s es c.args.parser.now m h) k);
+      let t = c.advance_to_event in
+      adds_fewer (length m) s (take t.result c.args.bytes.now)
+      (t.ensures.limited (after_all Ground s) (kept_at s es c.args.parser.now m h) k);
   failed = search rules;
   again = search rules;
 }
 
 pub returns-clause-sound : goal.returns-clause-sound
 unfolding HasConsumed
-returns-clause-sound c = λ less s es h. c.take_on.ensures.sound _ h.1 less
+returns-clause-sound c = λ less s es h. c.advance_to_event.ensures.sound _ h.1 less
