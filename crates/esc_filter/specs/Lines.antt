@@ -1,5 +1,5 @@
--- The text that is written for a stream whose lines are streams of their own; u says how characters
--- that deceive are written.
+-- The text that is written for a stream whose lines are streams of their own; u says how deceiving
+-- text is written.
 use Rattle.std.specs.Prelude.{ℕ, ◌≡◌, ◌<◌, ◌⊎◌, Bool, true, false, not, ◌==◌, ◌&&◌, nat_le, nat_lt, if◌then◌else◌, List, [], ◌∷◌, ◌++◌, Some, codes, string_bytes}
 use Rattle.std.specs.List.{list_any, flat_map}
 use lib.Utf8.{scalar}
@@ -202,9 +202,8 @@ IsFilteredByLines has_ended limit admits s t =
     IsFilteredByLinesAs has_ended keep_all limit admits s t
 
 -- The filter, of this limit and of a policy that admits these values, was fed these bytes; u says
--- how characters that deceive are written. The bytes are lines that have ended, and then the rest
--- of one. The inner filter was fed all of the rest, but for a carriage return that comes last and
--- is held back.
+-- how deceiving text is written. The bytes are lines that have ended, and then the rest of one. The
+-- inner filter was fed all of the rest, but for a carriage return that comes last and is held back.
 pub record HasConsumedLines {P A : Type 0} (u : Guard) (limit : ℕ) (admits : Value A → Bool)
     (s : List ℕ) (f : LineFilter P A) : Type 0 where
   pub ended : List ℕ

@@ -80,7 +80,7 @@ abbrev pub IsQuiet : {A : Type 0} → Guard → ℕ → (Value A → Bool) → L
 IsQuiet u limit admits s =
     (ls : List (List ℕ)) × (s ≡ joined_lists ls) × AreQuiet u limit admits ls
 
--- whatever is written for characters that deceive, and whatever the limit is
+-- whatever is written for deceiving text, and whatever the limit is
 abbrev pub LeavesNone : {A : Type 0} → (Value A → Bool) → List ℕ → Type 0
 LeavesNone admits s = (u : Guard) (limit : ℕ) → IsQuiet u limit admits s
 

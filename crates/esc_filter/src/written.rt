@@ -40,7 +40,7 @@ pub(crate) struct Written<A: Allocator = Global> {
     pub spell: TextSink<A>,
     /// The changes that they left.
     pub left: Terminal,
-    /// The way in which characters that deceive are written.
+    /// The way in which deceiving text is written.
     pub guard: Guard,
     /// Whether line feeds are dropped.
     pub by_lines: bool,

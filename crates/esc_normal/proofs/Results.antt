@@ -70,7 +70,7 @@ pub ok_any : {T E X : Type 0} (r : Result T E) → X → OnOk r X
 ok_any (Ok t) x = x
 ok_any (Err e) x = tt
 
--- if it failed exactly if an error came, and the error did not come, it has not failed
+-- a call that fails exactly with an error has not failed if the error did not come
 pub unfailed : {T E : Type 0} (t : T) (e : E) (failed : Bool)
     → (IsErrOf (Ok t) e ↔ IsTrue failed) → failed ≡ false
 unfailed t e true h = let k = h.1 refl in absurd cc
