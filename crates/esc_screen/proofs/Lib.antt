@@ -3,6 +3,7 @@ pub mod Stops
 pub mod Becoming
 pub mod Runs
 pub mod Free
+pub mod Used
 pub mod Sounds
 pub mod StaysSound
 pub mod Halves

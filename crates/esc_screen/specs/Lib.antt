@@ -1,5 +1,6 @@
 pub mod Lists
 pub mod Cells
+pub mod Used
 pub mod Cursors
 pub mod Grids
 pub mod Printing

@@ -178,8 +178,8 @@ fn clear(cells: &mut [Cell], look: u16)
     fill(cells, Cell::blank(look));
 }
 
-// Makes the cells from one column to before another blank.
-fn clear_part(cells: &mut [Cell], from: usize, to: usize, look: u16)
+/// Makes the cells from one column to before another blank.
+pub(crate) fn clear_part(cells: &mut [Cell], from: usize, to: usize, look: u16)
     ensures { cells.new ≡ in_part from to (cleared_cells look) cells.old }
 {
     let end = to.min(cells.len());

@@ -1,6 +1,7 @@
 //! A row of cells.
 ghost use Rattle.std.specs.Prelude.{◌≡◌, ◌+◌, ◌<◌, ◌^◌, IfOk, OnErr, length};
-ghost use Rattle.esc_screen.specs.Cells.{blank_row, content_at, deleted_cells, erased_cells, filled_cells, inserted_cells, joined_at, marked_cells, put, put_all, put_wide, shifted_cells};
+ghost use Rattle.esc_screen.specs.Cells.{blank_row, cleared_cells, content_at, deleted_cells, erased_cells, filled_cells, inserted_cells, joined_at, marked_cells, put, put_all, put_wide, shifted_cells};
+ghost use Rattle.esc_screen.specs.Used.{IsUnusedFrom};
 ghost use Rattle.fallible_alloc.specs.Refusals.{Refused};
 
 use crate::cell::Cell;
@@ -14,15 +15,20 @@ use std::marker::Model;
 #[derive(Drop)]
 pub(crate) struct Row<A: Allocator = Global> {
     cells: Vec<Cell, A>,
+    // each cell from this one on is as at first
+    used: usize,
 }
 
 impl<A: Allocator> Model for Row<A> {
+    ghost use Rattle.esc_screen.specs.Used.{IsUnusedFrom};
     ghost use Rattle.esc_screen.specs.declared.cell.Cell.{Cell as TheCell};
     ghost use Rattle.std.specs.Prelude.{List};
 
     ghost Value = { List TheCell };
 
     ghost view = { λ r. r.cells.items };
+
+    ghost invariant = { λ r. IsUnusedFrom r.used r.cells.items };
 }
 
 impl<A: Allocator> Row<A> {
@@ -35,7 +41,7 @@ impl<A: Allocator> Row<A> {
         for _ in 0..columns {
             fallible_alloc::push(&mut cells, Cell::blank(0))?;
         }
-        Ok(Row { cells })
+        Ok(Row { cells, used: 0 })
     }
 
     /// Its cells.
@@ -45,12 +51,20 @@ impl<A: Allocator> Row<A> {
         &self.cells
     }
 
+    /// How many of its cells are used, at most: each from there on is as at first.
+    pub fn used(&self) -> usize
+        ensures { IsUnusedFrom result self.now }
+    {
+        self.used
+    }
+
     /// Puts a character of one column.
     pub fn put_narrow(&mut self, at: usize, c: char, look: u16)
         requires { at + 1 < 2 ^ 64 }
         ensures { self.new ≡ put at look c self.old }
     {
         cells::put_narrow(&mut self.cells, at, c, look);
+        self.used = self.used.max(at + 1);
     }
 
     /// Puts characters of ASCII, one byte each, one after another.
@@ -59,6 +73,7 @@ impl<A: Allocator> Row<A> {
         ensures { self.new ≡ put_all at look text.now self.old }
     {
         cells::put_text(&mut self.cells, at, text, look);
+        self.used = self.used.max(at + text.len());
     }
 
     /// Puts a character of two columns.
@@ -67,6 +82,7 @@ impl<A: Allocator> Row<A> {
         ensures { self.new ≡ put_wide at look c self.old }
     {
         cells::put_both(&mut self.cells, at, c, look);
+        self.used = self.used.max(at + 2);
     }
 
     /// Says that it goes on in the next one, where a column is its last.
@@ -74,6 +90,7 @@ impl<A: Allocator> Row<A> {
         ensures { self.new ≡ joined_at at self.old }
     {
         cells::join(&mut self.cells, at);
+        self.used = self.cells.len();
     }
 
     /// Puts a mark on the character of which a column is part.
@@ -94,7 +111,26 @@ impl<A: Allocator> Row<A> {
     pub fn erase(&mut self, from: usize, to: usize, look: u16)
         ensures { self.new ≡ erased_cells look from to self.old }
     {
+        if look == 0 {
+            self.erase_plain(from, to);
+        } else {
+            self.erase_looking(from, to, look);
+        }
+    }
+
+    // The same with the first look: cells that are as at first stay so.
+    fn erase_plain(&mut self, from: usize, to: usize)
+        ensures { self.new ≡ erased_cells 0 from to self.old }
+    {
+        let end = to.min(self.used);
+        cells::erase(&mut self.cells, from, end, 0);
+    }
+
+    fn erase_looking(&mut self, from: usize, to: usize, look: u16)
+        ensures { self.new ≡ erased_cells look from to self.old }
+    {
         cells::erase(&mut self.cells, from, to, look);
+        self.used = self.cells.len();
     }
 
     /// Takes out so many cells from one column on, and before another.
@@ -103,6 +139,7 @@ impl<A: Allocator> Row<A> {
         ensures { self.new ≡ deleted_cells look count from to self.old }
     {
         cells::delete(&mut self.cells, count, from, to, look);
+        self.used = self.cells.len();
     }
 
     /// Puts in so many blank cells at one column: those that would be past another are gone.
@@ -110,6 +147,7 @@ impl<A: Allocator> Row<A> {
         ensures { self.new ≡ inserted_cells look count from to self.old }
     {
         cells::insert(&mut self.cells, count, from, to, look);
+        self.used = self.cells.len();
     }
 
     /// Puts in so many blank cells, or takes as many out.
@@ -137,5 +175,24 @@ impl<A: Allocator> Row<A> {
         ensures { self.new ≡ filled_cells cell self.old }
     {
         cells::fill(&mut self.cells, cell);
+        self.used = self.cells.len();
+    }
+    /// Takes the characters out of its cells.
+    pub fn clear(&mut self, look: u16)
+        ensures { self.new ≡ cleared_cells look self.old }
+    {
+        if look == 0 {
+            self.reset();
+        } else {
+            self.fill(Cell::blank(look));
+        }
+    }
+
+    // Makes its cells as they were at first.
+    fn reset(&mut self)
+        ensures { self.new ≡ cleared_cells 0 self.old }
+    {
+        cells::clear_part(&mut self.cells, 0, self.used, 0);
+        self.used = 0;
     }
 }

@@ -17,11 +17,13 @@ pub(crate) fn fill<A: Allocator>(rows: &mut [Row<A>], cell: Cell)
     }
 }
 
-// Takes the characters out of all cells of rows.
-fn clear<A: Allocator>(rows: &mut [Row<A>], look: u16)
+/// Takes the characters out of all cells of rows.
+pub(crate) fn clear<A: Allocator>(rows: &mut [Row<A>], look: u16)
     ensures { rows.new ≡ map (cleared_cells look) rows.old }
 {
-    fill(rows, Cell::blank(look));
+    for i in 0..rows.len() {
+        rows[i].clear(look);
+    }
 }
 
 // Moves rows up by so many: the last ones are blank then.

@@ -4,6 +4,7 @@ ghost use Rattle.esc_screen.specs.Screens.{Becomes, Takes, grid_of, size_of};
 ghost use Rattle.esc_screen.specs.Grids.{first_grid, line_fed, line_fed_back, grid_at, next_line, rows_down, rows_erased, rows_up, settled_grid};
 ghost use Rattle.esc_screen.specs.Scrolled.{main_rows};
 ghost use Rattle.esc_screen.specs.Steps.{grid_from};
+ghost use Rattle.esc_screen.specs.Used.{IsUnusedFrom};
 ghost use Rattle.fallible_alloc.specs.Refusals.{Refused};
 
 use crate::cell::Cell;
@@ -110,6 +111,17 @@ impl<A: Allocator> Screen<A> {
         match self.rows.get(at) {
             Some(row) => row.cells(),
             None => &[],
+        }
+    }
+
+    /// How many of the cells of a row are used, at most: each from there on is blank and has the
+    /// look 0, as at first.
+    pub fn used(&self, at: usize) -> usize
+        ensures { IsUnusedFrom result (get_or self.now.rows.items at []) }
+    {
+        match self.rows.get(at) {
+            Some(row) => row.used(),
+            None => 0,
         }
     }
 

@@ -2,7 +2,6 @@
 ghost use Rattle.esc_screen.specs.Screens.{Becomes, grid_of, size_of};
 ghost use Rattle.esc_screen.specs.Settings.{alternate_cleared, exchanged_screens, grid_by_setting, reset_grid, restored_grid, scrolling, softly_reset_grid, tab_set, to_alternate, to_main, with_origin};
 
-use crate::cell::Cell;
 use crate::cursor::Cursor;
 use crate::modes::Modes;
 use crate::screen::Screen;
@@ -102,8 +101,8 @@ impl<A: Allocator> Screen<A> {
     fn reset(&mut self)
         ensures { Becomes self.old (reset_grid (size_of self.old) (grid_of self.old)) self.new }
     {
-        rows::fill(&mut self.rows, Cell::blank(0));
-        rows::fill(&mut self.other, Cell::blank(0));
+        rows::clear(&mut self.rows, 0);
+        rows::clear(&mut self.other, 0);
         self.alternate = false;
         self.cursor = Cursor::home();
         self.saved = Cursor::home();
