@@ -154,7 +154,8 @@ pub unused_erased : (n m k : ℕ) (xs : List Cell) → IsUnusedFrom n xs
 unused_erased n m k xs h =
     let ys = cut_row k (cut_row m xs) in
     let h = unused_cut n k (cut_row m xs) (unused_cut n m xs h) in
-    unused_append n m ys _ h (unused_erased_first (n - m) (k - m) (drop m ys) (unused_drop n m ys h))
+    unused_append n m ys _ h
+    (unused_erased_first (n - m) (k - m) (drop m ys) (unused_drop n m ys h))
 
 -- what is erased of cells that are as at first is as it was
 pub erased_is : (n m k : ℕ) (xs : List Cell) → IsUnusedFrom n xs

@@ -12,6 +12,8 @@ invariant_of-self g c =
     let more : row.used ≤ n = omega (arith, c.max-self-inside.ensures) in
     let few : c.args.at + 2 ≤ n = omega (arith, c.max-self-inside.ensures) in
     subst (IsUnusedFrom n)
-    (sym (written_by (put_wide c.args.at c.args.look c.args.c) row.cells.len c.put_both.new.cells _ xs
-    (c.put_both.auto.cells ∙ c.deref_mut.ensures.len) c.put_both.ensures c.deref_mut.ensures.value))
-    (unused_put_wide n c.args.at c.args.look c.args.c xs few (unused_more row.used n xs more c.self.invariant))
+    (sym (written_by (put_wide c.args.at c.args.look c.args.c) row.cells.len
+    c.put_both.new.cells _ xs (c.put_both.auto.cells ∙ c.deref_mut.ensures.len) c.put_both.ensures
+    c.deref_mut.ensures.value))
+    (unused_put_wide n c.args.at c.args.look c.args.c xs few
+    (unused_more row.used n xs more c.self.invariant))

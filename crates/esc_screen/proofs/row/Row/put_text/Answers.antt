@@ -12,6 +12,8 @@ invariant_of-self g c =
     let more : row.used ≤ n = omega (arith, c.max-self-inside.ensures) in
     let few : c.args.at + length c.args.text.now ≤ n = omega (arith, c.max-self-inside.ensures) in
     subst (IsUnusedFrom n)
-    (sym (written_by (put_all c.args.at c.args.look c.args.text.now) row.cells.len c.put_text.new.cells _ xs
-    (c.put_text.auto.cells ∙ c.deref_mut.ensures.len) c.put_text.ensures c.deref_mut.ensures.value))
-    (unused_put_all n c.args.at c.args.look c.args.text.now xs few (unused_more row.used n xs more c.self.invariant))
+    (sym (written_by (put_all c.args.at c.args.look c.args.text.now) row.cells.len
+    c.put_text.new.cells _ xs (c.put_text.auto.cells ∙ c.deref_mut.ensures.len) c.put_text.ensures
+    c.deref_mut.ensures.value))
+    (unused_put_all n c.args.at c.args.look c.args.text.now xs few
+    (unused_more row.used n xs more c.self.invariant))
