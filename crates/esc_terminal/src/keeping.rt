@@ -38,8 +38,10 @@ impl<R: Rows, A: Allocator + Copy> Keeping<R, A> {
         ensures failed { OnErr result R.fails }
     {
         for at in 0..self.state.screen.leaving(step) {
+            let screen = &self.state.screen;
+            let used = screen.used(at);
             self.rows
-                .take_row(self.state.screen.row(at), &self.state.styles)?;
+                .take_used(screen.row(at), used, &self.state.styles)?;
         }
         Ok(())
     }

@@ -1,5 +1,6 @@
 //! What takes the rows that are scrolled off a screen.
 ghost use Rattle.std.specs.Prelude.{◌≡◌, [], ◌∷◌, ◌++◌, List, OnErr, OnOk, string_bytes};
+ghost use Rattle.esc_screen.specs.Used.{IsUnusedFrom};
 ghost use Rattle.esc_screen.specs.declared.cell.Cell.{Cell as TheCell};
 ghost use Rattle.esc_terminal.specs.Links.{Known, known_of};
 ghost use Rattle.esc_terminal.specs.Rows.{row_text};
@@ -27,6 +28,23 @@ pub trait Rows {
     ) -> Result<(), AllocError>
         ensures given { OnOk result (takes self.old (cells.now, known_of styles.now) self.new) }
         ensures failed { OnErr result fails };
+
+    /// Takes a row as [`take_row`](Rows::take_row) does. So many of its cells are used at most:
+    /// each from there on is blank and has the look 0. A sink that adds nothing for such cells at
+    /// the end need not look at them.
+    #[inline]
+    fn take_used<A: Allocator + Copy>(
+        &mut self,
+        cells: &[Cell],
+        _used: usize,
+        styles: &Styles<A>,
+    ) -> Result<(), AllocError>
+        requires { IsUnusedFrom _used cells.now }
+        ensures given { OnOk result (takes self.old (cells.now, known_of styles.now) self.new) }
+        ensures failed { OnErr result fails }
+    {
+        self.take_row(cells, styles)
+    }
 }
 
 // What is lent.
@@ -42,6 +60,16 @@ impl<R: Rows> Rows for &mut R {
     ) -> Result<(), AllocError> {
         (**self).take_row(cells, styles)
     }
+
+    #[inline]
+    fn take_used<A: Allocator + Copy>(
+        &mut self,
+        cells: &[Cell],
+        used: usize,
+        styles: &Styles<A>,
+    ) -> Result<(), AllocError> {
+        (**self).take_used(cells, used, styles)
+    }
 }
 
 /// Appends the text of each row, and a line feed.
@@ -56,6 +84,18 @@ impl<A: Allocator> Rows for String<A> {
         _styles: &Styles<B>,
     ) -> Result<(), AllocError> {
         push_row(self, cells)?;
+        push_char(self, '\n')
+    }
+
+    #[tactic(auto, using(crate::proofs::Texts::used_text))]
+    fn take_used<B: Allocator + Copy>(
+        &mut self,
+        cells: &[Cell],
+        used: usize,
+        _styles: &Styles<B>,
+    ) -> Result<(), AllocError> {
+        let end = used.min(cells.len());
+        push_row(self, &cells[..end])?;
         push_char(self, '\n')
     }
 }

@@ -1,11 +1,12 @@
 -- What is written grows.
-use Rattle.std.proofs.Common.{◌≡◌, ℕ, ◌+◌, ◌<◌, ◌≤◌, ◌==◌, Bool, true, false, not, ◌&&◌, ◌||◌, if◌then◌else◌, List, [], ◌∷◌, ◌++◌, length, drop, take, get_or, replicate, Some, refl, ap, sym, ◌∙◌, append_assoc, append-nil, arith}
+use Rattle.std.proofs.Common.{◌≡◌, ℕ, suc, zero, ◌+◌, ◌<◌, ◌≤◌, ◌==◌, min, inl, inr, Bool, true, false, not, ◌&&◌, ◌||◌, if◌then◌else◌, List, [], ◌∷◌, ◌++◌, length, drop, take, get_or, replicate, Some, refl, ap, sym, ◌∙◌, append_assoc, append-nil, arith}
 use Rattle.std.specs.List.{FoldsTo}
-use Rattle.std.proofs.lemmas.Bool.{and_parts}
-use Rattle.std.proofs.lemmas.List.{drop_all, drop_more, replicate_more, take_more}
+use Rattle.std.proofs.lemmas.Bool.{and_parts, cases_lt}
+use Rattle.std.proofs.lemmas.List.{drop_all, drop_more, get_or_past, replicate_more, take_more}
 use Rattle.esc_sgr.specs.Sgr.{same_look}
 use Rattle.esc_style.specs.Looks.{plain_look}
-use Rattle.esc_screen.specs.Cells.{is_joined, is_rest}
+use Rattle.esc_screen.specs.Cells.{blank, is_joined, is_rest}
+use Rattle.esc_screen.specs.Used.{IsUnusedFrom}
 use Rattle.esc_screen.specs.declared.cell.Cell.{Cell}
 use Rattle.esc_terminal.specs.Links.{Known, known_look}
 use Rattle.esc_terminal.specs.Scrolled.{Row}
@@ -68,6 +69,39 @@ pub cells_end : (k : Known) (o : Out) (w : Going) (i : ℕ) (xs : List Cell) →
     → out_from o (plain_pieces k w.held) ≡ out_from o (cells_pieces k w (drop i xs))
 cells_end k o w i xs all =
     ap (λ z. out_from o (cells_pieces k w z)) (sym (drop_all i xs all))
+
+-- cells that are not used add nothing
+no_pieces : (k : Known) (w : Going) (xs : List Cell) → IsUnusedFrom 0 xs
+    → plain_pieces k w.held ≡ cells_pieces k w xs
+no_pieces k w [] h = refl
+no_pieces k w (x ∷ xs) h =
+    no_pieces k (record w { blanks = w.blanks + 1 }) xs (λ i at. h (suc i) (omega arith))
+    ∙ ap (λ y. cell_pieces k w y ++ cells_pieces k (going_by k w y) xs) (sym (h 0 (omega arith)))
+
+used_pieces : (k : Known) (w : Going) (n : ℕ) (xs : List Cell) → IsUnusedFrom n xs
+    → cells_pieces k w (take n xs) ≡ cells_pieces k w xs
+used_pieces k w zero xs h = no_pieces k w xs h
+used_pieces k w (suc n) [] h = refl
+used_pieces k w (suc n) (x ∷ xs) h =
+    ap (λ ps. cell_pieces k w x ++ ps)
+    (used_pieces k (going_by k w x) n xs (λ i at. h (suc i) (omega (arith, at))))
+
+pub all_used : (n : ℕ) (xs : List Cell) → length xs ≤ n → IsUnusedFrom n xs
+all_used n xs all i at = get_or_past xs i (blank 0) (omega (arith, all, at))
+
+used_least : (n : ℕ) (xs : List Cell) → IsUnusedFrom n xs
+    → IsUnusedFrom (min n (length xs)) xs
+used_least n xs h =
+    elim (cases_lt (length xs) n) [
+      | inl less ↦ λ i at. get_or_past xs i (blank 0) (omega (arith, less, at))
+      | inr more ↦ λ i at. h i (omega (arith, more, at))
+    ]
+
+pub used_written : (k : Known) (w : Going) (n m : ℕ) (xs : List Cell) → IsUnusedFrom n xs
+    → m ≡ min n (length xs) → cells_pieces k w (take m xs) ≡ cells_pieces k w xs
+used_written k w n m xs h is =
+    ap (λ j. cells_pieces k w (take j xs)) is
+    ∙ used_pieces k w (min n (length xs)) xs (used_least n xs h)
 
 -- a cell that is as at first adds nothing at the end
 unwritten_hidden : (k : Known) (x : Cell) → is_unwritten x ≡ true → is_hidden k x ≡ true

@@ -1,5 +1,6 @@
 //! Rows that are written.
 ghost use Rattle.std.specs.Prelude.{◌≡◌, ◌<◌, ◌^◌, IfOk, OnErr, OnOk, Some, replicate};
+ghost use Rattle.esc_screen.specs.Used.{IsUnusedFrom};
 ghost use Rattle.esc_terminal.specs.Links.{known_of};
 ghost use Rattle.fallible_alloc.specs.Refusals.{Refused};
 ghost use Rattle.screen_lines.specs.Written.{WritesRow, out_of};
@@ -251,18 +252,21 @@ impl<A: Allocator> Lines<A> {
         })
     }
 
-    // Adds cells: those at their end that are as at first add nothing.
+    // Adds cells, of which so many are used at most: those at their end that are as at first add
+    // nothing.
     fn push_cells<B: Allocator + Copy>(
         &mut self,
         styles: &Styles<B>,
         cells: &[Cell],
+        used: usize,
     ) -> Result<(), AllocError>
+        requires { IsUnusedFrom used cells.now }
         ensures ok { OnOk result (out_of self.new
             ≡ out_from (out_of self.old)
             (cells_pieces (known_of styles.now) first_going cells.now)) }
         ensures refused { OnErr result (Refused A) }
     {
-        self.push_written(styles, written(cells))
+        self.push_written(styles, written(cells, used))
     }
 
     #[tactic(auto, using(crate::proofs::Growing::cells_end))]
@@ -295,19 +299,21 @@ impl<A: Allocator> Lines<A> {
         if self.gap { self.end_line() } else { Ok(()) }
     }
 
-    // Adds a row.
+    // Adds a row, of which so many cells are used at most.
     #[tactic(auto, using(crate::proofs::Growing::from_more))]
     fn push_row<B: Allocator + Copy>(
         &mut self,
         styles: &Styles<B>,
         cells: &[Cell],
+        used: usize,
     ) -> Result<(), AllocError>
+        requires { IsUnusedFrom used cells.now }
         ensures ok { OnOk result (out_of self.new
             ≡ out_by_row (out_of self.old) (cells.now, known_of styles.now)) }
         ensures refused { OnErr result (Refused A) }
     {
         self.push_gap()?;
-        self.push_cells(styles, cells)?;
+        self.push_cells(styles, cells, used)?;
         self.gap = !is_joined(cells);
         Ok(())
     }
@@ -319,11 +325,21 @@ impl<A: Allocator> Rows for Lines<A> {
 
     ghost fails = { Refused A };
 
+    #[tactic(auto, using(crate::proofs::Growing::all_used))]
     fn take_row<B: Allocator + Copy>(
         &mut self,
         cells: &[Cell],
         styles: &Styles<B>,
     ) -> Result<(), AllocError> {
-        self.push_row(styles, cells)
+        self.push_row(styles, cells, cells.len())
+    }
+
+    fn take_used<B: Allocator + Copy>(
+        &mut self,
+        cells: &[Cell],
+        used: usize,
+        styles: &Styles<B>,
+    ) -> Result<(), AllocError> {
+        self.push_row(styles, cells, used)
     }
 }

@@ -1,6 +1,7 @@
 //! Hidden cells: blank ones of the plain look.
 ghost use Rattle.std.specs.Prelude.{◌≡◌};
 ghost use Rattle.std.specs.List.{list_all};
+ghost use Rattle.esc_screen.specs.Used.{IsUnusedFrom};
 ghost use Rattle.esc_terminal.specs.Links.{Known, known_of};
 ghost use Rattle.screen_lines.specs.Rows.{cells_pieces, is_blank_content, is_hidden, is_unwritten};
 ghost use Rattle.screen_lines.specs.declared.going.Going.{Going};
@@ -38,11 +39,12 @@ fn is_unwritten(cell: &Cell) -> bool
     is_blank(cell.content) && cell.look == 0
 }
 
-/// Cells up to the last that is not as at first.
-pub(crate) fn written(cells: &[Cell]) -> &[Cell]
+/// Cells up to the last that is not as at first, where so many are used at most.
+pub(crate) fn written(cells: &[Cell], used: usize) -> &[Cell]
+    requires { IsUnusedFrom used cells.now }
     ensures { (k : Known) (w : Going) → cells_pieces k w result.now ≡ cells_pieces k w cells.now }
 {
-    let mut end = cells.len();
+    let mut end = used.min(cells.len());
     while 0 < end && is_unwritten(&cells[end - 1]) {
         end -= 1;
     }

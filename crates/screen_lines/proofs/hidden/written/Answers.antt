@@ -1,6 +1,12 @@
 use Rattle.std.proofs.Common.{◌-◌, arith, sym, ◌∙◌}
-use Rattle.screen_lines.proofs.Growing.{unwritten_less}
+use Rattle.screen_lines.proofs.Growing.{unwritten_less, used_written}
 use Rattle.screen_lines.proofs.hidden.written.Goals as goal
+
+pub loop-end-init : goal.loop-end-init
+loop-end-init c = (
+  omega (arith, c.min-end.ensures),
+  λ k w. used_written k w c.args.used _ c.args.cells.now c.requires c.min-end.ensures,
+)
 
 pub loop-end-preserved : goal.loop-end-preserved
 loop-end-preserved c = (

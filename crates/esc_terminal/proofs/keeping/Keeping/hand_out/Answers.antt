@@ -14,10 +14,10 @@ loop-at-preserved g c =
     let within : i < length rs = omega (arith, less, c.leaving-at-end.ensures.within) in
     let row = c.row.ensures ∙ ap (λ z. get_or z.screen.rows.items i []) same in
     let known = ap known_in same in
-    let given = subst (λ z. g.R.Rows.takes c.loop-at.self.rows z c.take_row.new.self)
+    let given = subst (λ z. g.R.Rows.takes c.loop-at.self.rows z c.take_used.new.self)
     (ap (λ x. (x, known_in c.loop-at.self.state)) row ∙ ap (λ y. (get_or rs i [], y)) known)
-    c.in_ok-take_row.ensures.given in (
+    c.in_ok-take_used.ensures.given in (
       same,
-      row_more g.R.Rows.takes ls rs i p.rows c.loop-at.self.rows c.take_row.new.self within
+      row_more g.R.Rows.takes ls rs i p.rows c.loop-at.self.rows c.take_used.new.self within
           c.loop-at.invariant.1 given,
     )
