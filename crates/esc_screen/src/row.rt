@@ -177,6 +177,7 @@ impl<A: Allocator> Row<A> {
         cells::fill(&mut self.cells, cell);
         self.used = self.cells.len();
     }
+
     /// Takes the characters out of its cells.
     pub fn clear(&mut self, look: u16)
         ensures { self.new ≡ cleared_cells look self.old }
