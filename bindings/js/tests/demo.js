@@ -1,6 +1,6 @@
 // SPDX-License-Identifier: MIT
 // Tries the demo in a headless Chromium, and the screen of a recording where screen.wasm is there:
-// `node --experimental-websocket tests/demo.js [PICTURE]`.
+// `node --experimental-websocket tests/demo.js [PICTURE]`, which makes the picture too.
 import assert from "node:assert/strict";
 import { existsSync, writeFileSync } from "node:fs";
 import { fileURLToPath } from "node:url";
@@ -23,6 +23,16 @@ const PLAYED = Buffer.from(`{"version": 3, "term": {"cols": 10, "rows": 3}}
 [0.1, "o", "\\rdone\\u001b]0;t\\u0007"]
 [0.1, "i", "x"]
 [0.1, "o", "\\u001b[2;3H\\u001b[1;38;5;1mred<b>\\u001b[m\\u001b]8;;https://a.org\\u0007a\\u001b]8;;\\u0007"]
+`);
+// A build that draws a bar again and again, and asks for more than it shows.
+const BUILD = Buffer.from(`{"version": 2, "width": 60, "height": 7}
+[0.2, "o", "\\u001b]0;make\\u0007Building\\r\\n[          ]   0%"]
+[0.9, "o", "\\r[####      ]  40%"]
+[2.1, "o", "\\r[##########] 100%\\r\\n\\u001b]52;c;cm0gLXJmIH4=\\u0007"]
+[2.4, "o", "\\u001b[31;1merror:\\u001b[0m <script>alert(1)</script> \\u001b[c"]
+[2.6, "o", "\\r\\n\\u001b[32mok\\u001b[0m \\u001b[38;5;208morange\\u001b[38;2;0;128;255m blue\\u001b[0m"]
+[2.8, "o", " see \\u001b]8;;https://example.org\\u0007the log\\u001b]8;;\\u0007\\r\\n"]
+[3.1, "o", "\\u001b[6;1H\\u001b[7m in 2.9 s \\u001b[m caf\\u00e9"]
 `);
 
 const top = fileURLToPath(new URL("..", import.meta.url));
@@ -110,7 +120,7 @@ try {
   assert.deepEqual(it.said.filter((text) => hasScreen || !text.includes("screen.wasm")), []);
   const [picture] = process.argv.slice(2);
   if (picture) {
-    await drop("attack.log", ATTACK);
+    await drop(...(hasScreen ? ["build.cast", BUILD] : ["attack.log", ATTACK]));
     const { data } = await it.call("Page.captureScreenshot", { format: "png" });
     writeFileSync(picture, Buffer.from(data, "base64"));
   }
