@@ -1,7 +1,6 @@
 pub mod Once
 pub mod LinksKept
 pub mod Kept
-pub mod Texts
 pub mod Runs
 pub mod Streams
 pub mod Handed

@@ -86,16 +86,4 @@ impl<A: Allocator> Rows for String<A> {
         push_row(self, cells)?;
         push_char(self, '\n')
     }
-
-    #[tactic(auto, using(crate::proofs::Texts::used_text))]
-    fn take_used<B: Allocator + Copy>(
-        &mut self,
-        cells: &[Cell],
-        used: usize,
-        _styles: &Styles<B>,
-    ) -> Result<(), AllocError> {
-        let end = used.min(cells.len());
-        push_row(self, &cells[..end])?;
-        push_char(self, '\n')
-    }
 }
