@@ -110,7 +110,7 @@ is_shown c = nat_le 0x20 c && not (nat_le 0x7f c && nat_le c 0x9f)
 abbrev pub is_shown_line : List ℕ → Bool
 is_shown_line l = list_all is_shown (chars l)
 
--- a text of characters, none of which is a control
+-- holds of a text of characters, none of which is a control
 abbrev pub IsShownText : List ℕ → Type 0
 IsShownText x = (cs : List ℕ) × (list_all is_shown cs ≡ true) × (encode_utf8_all cs ≡ x)
 

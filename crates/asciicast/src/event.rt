@@ -12,11 +12,11 @@ use std::alloc::{AllocError, Allocator};
 /// The event that a line of a recording tells a reader that writes none of it.
 #[derive(Clone, Copy)]
 pub enum Event<'a> {
-    /// At this time, as it is written, the terminal got this text.
+    /// The terminal got this text at this time, as it is written.
     Output(&'a str, &'a str),
-    /// At this time this text was typed.
+    /// This text was typed at this time.
     Input(&'a str, &'a str),
-    /// At this time an event of another kind came.
+    /// An event of another kind came at this time.
     Passed(&'a str),
     /// The header, with times counted from the event before: of version 3, and not of 2.
     Header(bool),
@@ -26,7 +26,7 @@ pub enum Event<'a> {
     Wrong,
 }
 
-/// The event of this line, without its line feed. The error says that memory was refused.
+/// Returns the event of this line, without its line feed. The error says that memory was refused.
 pub fn event_in<'a, A: Allocator + Copy>(
     alloc: A,
     line: &'a str,
@@ -42,7 +42,7 @@ pub fn event_in<'a, A: Allocator + Copy>(
     }
 }
 
-// The kind of an event.
+// Returns the kind of an event.
 fn read_event<'a, A: Allocator>(
     line: &'a str,
     scratch: &'a mut Scratch<A>,
@@ -53,7 +53,7 @@ fn read_event<'a, A: Allocator>(
     Ok(event_of(&mut reader))
 }
 
-// The event of these tokens.
+// Returns the event of these tokens.
 fn event_of<'a>(reader: &mut Reader<'a>) -> Event<'a>
     ensures { told_by result ≡ told_event reader.old }
 {
@@ -91,7 +91,7 @@ fn event_at<'a>(time: &'a str, kind: &'a str, text: &'a str) -> Event<'a>
     }
 }
 
-// The kind of a header.
+// Returns the kind of a header.
 fn header<'a, A: Allocator + Copy>(
     alloc: A,
     line: &'a str,
@@ -106,7 +106,7 @@ fn header<'a, A: Allocator + Copy>(
     }
 }
 
-// The header of this value.
+// Returns the header of this value.
 fn header_of<'a, A: Allocator>(value: &Value<'_, A>) -> Event<'a>
     ensures { told_by result ≡ told_header (Some (value_view value.now)) }
 {

@@ -24,7 +24,7 @@ pub enum Line<'a> {
     Wrong,
 }
 
-/// The kind of this line.
+/// Returns the kind of this line. The error is that memory was refused.
 pub fn line_of<'a, A: Allocator + Copy>(
     alloc: A,
     line: &'a str,
@@ -41,14 +41,14 @@ pub fn line_of<'a, A: Allocator + Copy>(
     }
 }
 
-/// The first byte of a line that is no white space.
+/// Returns the first byte of a line that is no white space.
 pub fn first_of(line: &str) -> Option<u8>
     ensures { result ≡ first_byte line.now }
 {
     first_in(line.as_bytes())
 }
 
-// The first of these bytes that is none.
+// Returns the first of these bytes that is none.
 fn first_in(bytes: &[u8]) -> Option<u8>
     ensures { result ≡ first_byte bytes.now }
 {
@@ -60,14 +60,14 @@ fn first_in(bytes: &[u8]) -> Option<u8>
     None
 }
 
-// Whether a byte is white space of JSON, and no line feed.
+// Returns whether a byte is white space of JSON, and no line feed.
 fn is_space(byte: u8) -> bool
     ensures { result ≡ is_space byte }
 {
     byte == b' ' || byte == b'\t' || byte == b'\r'
 }
 
-// The kind of an event.
+// Returns the kind of an event.
 fn event<'a, A: Allocator>(
     line: &'a str,
     scratch: &'a mut Scratch<A>,
@@ -79,7 +79,7 @@ fn event<'a, A: Allocator>(
     Ok(event_of(&mut reader))
 }
 
-// The event of these tokens.
+// Returns the event of these tokens.
 fn event_of<'a>(reader: &mut Reader<'a>) -> Line<'a>
     ensures kind { kind_seen result ≡ event_kind reader.old }
     ensures number { HasNumber result }
@@ -120,7 +120,7 @@ fn event_at<'a>(time: &'a str, kind: &str, text: &'a str) -> Line<'a>
     }
 }
 
-// The kind of a header.
+// Returns the kind of a header.
 fn header<'a, A: Allocator + Copy>(
     alloc: A,
     line: &'a str,
@@ -136,7 +136,7 @@ fn header<'a, A: Allocator + Copy>(
     }
 }
 
-// The header of this value.
+// Returns the header of this value.
 fn header_of<'a, A: Allocator>(value: &Value<'_, A>) -> Line<'a>
     ensures kind { kind_seen result ≡ header_kind (Some (value_view value.now)) }
     ensures number { HasNumber result }

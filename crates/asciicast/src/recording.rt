@@ -29,16 +29,16 @@ pub struct Recording<F, A: Allocator = Global> {
     text: Vec<u8, A>,
     // the time of the last event of output
     time: String<A>,
-    // whether the time of an event is counted from the event before
+    // says whether the time of an event is counted from the event before
     is_relative: bool,
-    // whether events of input lose their texts
+    // says whether events of input lose their texts
     drops_input: bool,
 }
 
 impl<F: StreamFilter<A>, A: Allocator + Copy> Recording<F, A> {
     ghost use Rattle.asciicast.specs.Recorded.{Closes, Hears, IsAs, drops_input, feeding_of, is_relative, is_relative_after, text_of, time_of};
 
-    /// A recording of which no line was taken, for a filter that was fed nothing. Takes no memory.
+    /// Returns a recording that took no line, for a filter that was fed nothing. Takes no memory.
     pub fn new(alloc: A, feeding: F) -> Recording<F, A>
         ensures feeding { feeding_of result ≡ feeding }
         ensures empty { text_of result ≡ [] }
@@ -56,7 +56,8 @@ impl<F: StreamFilter<A>, A: Allocator + Copy> Recording<F, A> {
         }
     }
 
-    /// The same, but events of input lose their texts, or keep them. They keep their times.
+    /// Returns the same recording, but its events of input lose their texts, or keep them. They
+    /// keep their times.
     pub fn dropping_input(mut self, drops: bool) -> Recording<F, A>
         ensures drops { drops_input result ≡ drops }
         ensures same { (feeding_of result ≡ feeding_of self) × (text_of result ≡ text_of self)
@@ -109,7 +110,7 @@ impl<F: StreamFilter<A>, A: Allocator + Copy> Recording<F, A> {
 
     /// Ends the recording. If the end of the stream adds something, as a text that takes back a
     /// colour, the [`text`](Recording::text) is an event of output with it, at the time of the last
-    /// one; else it is empty.
+    /// one; else it is empty. The error is that memory was refused.
     pub fn finish(&mut self) -> Result<(), CastError>
         ensures given { Given F.StreamFilter (feeding_of self.old) (λ m c s.
             OnOk result (Closes m c s self.old self.new)) }
@@ -127,14 +128,14 @@ impl<F: StreamFilter<A>, A: Allocator + Copy> Recording<F, A> {
         Ok(())
     }
 
-    /// The line that the last call gave, with its line feed; nothing if it gave none.
+    /// Returns the line that the last call gave, with its line feed; nothing if it gave none.
     pub fn text(&self) -> &[u8]
         ensures { result.now ≡ text_of self.now }
     {
         self.text.as_slice()
     }
 
-    /// The filter.
+    /// Returns the filter.
     pub fn into_feeding(self) -> F
         ensures { result ≡ feeding_of self }
     {
@@ -171,7 +172,7 @@ impl<F: StreamFilter<A>, A: Allocator + Copy> Recording<F, A> {
     }
 }
 
-// The time of the event that the end adds, if the last event had this time.
+// Returns the time of the event that the end adds, if the last event had this time.
 fn end_time(is_relative: bool, time: &str) -> &str
     ensures number { IsNumber result.now }
     ensures time { IsEndTime is_relative time.now result.now }
@@ -183,7 +184,7 @@ fn end_time(is_relative: bool, time: &str) -> &str
     }
 }
 
-// The line of an event at this time, of this kind and text, with its line feed.
+// Returns the line of an event at this time, of this kind and text, with its line feed.
 fn event<A: Allocator>(
     alloc: A,
     time: &str,

@@ -5,7 +5,7 @@ ghost use Rattle.asciicast.specs.Recordings.{IsShownText, hex_digit, is_shown, i
 
 use std::alloc::{AllocError, Allocator};
 
-/// Whether no character of a line is a control.
+/// Returns whether no character of a line is a control.
 pub fn is_shown_line(line: &str) -> bool
     ensures { result ≡ is_shown_line line.now }
 {
@@ -17,7 +17,7 @@ pub fn is_shown_line(line: &str) -> bool
     true
 }
 
-/// A line with each control spelled.
+/// Returns a line with each control spelled. The error is that memory was refused.
 pub fn spelled<A: Allocator>(alloc: A, line: &str) -> Result<String<A>, AllocError>
     ensures { IfOk result (λ t. string_bytes t
         ≡ encode_utf8_all (flat_map spelled_char (chars line.now))) }
@@ -60,7 +60,7 @@ fn push_number<A: Allocator>(text: &mut String<A>, number: u32) -> Result<(), Al
     text.push(hex_digit(number % 16))
 }
 
-// A digit of a number in base 16.
+// Returns a digit of a number in base 16.
 fn hex_digit(number: u32) -> char
     requires { number < 16 }
     ensures value { result ≡ hex_digit number }
@@ -74,7 +74,7 @@ fn hex_digit(number: u32) -> char
     }
 }
 
-// Whether a character is no control.
+// Returns whether a character is no control.
 fn is_shown(c: char) -> bool
     ensures { result ≡ is_shown c }
 {

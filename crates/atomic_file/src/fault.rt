@@ -24,7 +24,7 @@ pub enum FileFault<'a> {
 const IS_A_DIRECTORY: i32 = 21;
 
 impl<'a> FileFault<'a> {
-    // That it is a folder.
+    // Returns the fault that the name is that of a folder.
     pub(crate) fn folder() -> FileFault<'a> {
         FileFault::from(io::Error::from_raw_os_error(IS_A_DIRECTORY))
     }

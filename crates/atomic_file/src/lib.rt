@@ -34,9 +34,9 @@ pub struct NewFile<R: Files + AllocGlobal> {
 }
 
 impl<R: Files + AllocGlobal> NewFile<R> {
-    /// A new file that is to take the place of the one of this name, with its permissions, and with
-    /// its owner if the system lets it. If the name is that of a link, the file that the link leads
-    /// to is meant. Until then its name is the other's with a number and `suffix`, as
+    /// Returns a new file that is to take the place of the one of this name, with its permissions,
+    /// and with its owner if the system lets it. If the name is that of a link, the file that the
+    /// link leads to is meant. Until then its name is the other's with a number and `suffix`, as
     /// `.0.escfilter`.
     ///
     /// The error says why there can be none: there is no file of this name, it is a folder or no
@@ -53,7 +53,8 @@ impl<R: Files + AllocGlobal> NewFile<R> {
         Ok(NewFile::over(rt, place.as_str(), &known, suffix)?)
     }
 
-    /// The same for a regular file of which this is known, and whose name is that of no link.
+    /// Does the same for a regular file with this metadata, whose name is that of no link. The
+    /// error is that the system refuses it.
     pub fn over(rt: &R, place: &str, known: &Metadata, suffix: &str) -> io::Result<NewFile<R>> {
         let new = created(rt, place, suffix, OWN_MODE)?;
         match new.become_as(rt, known) {
@@ -65,7 +66,8 @@ impl<R: Files + AllocGlobal> NewFile<R> {
         }
     }
 
-    /// A new file that is to take this place, in which there is none.
+    /// Returns a new file that is to take this place, in which there is none. The error is that the
+    /// system refuses it.
     pub fn at(rt: &R, place: &str, suffix: &str) -> io::Result<NewFile<R>> {
         created(rt, place, suffix, MODE)
     }
@@ -126,8 +128,8 @@ impl<R: Files + AllocGlobal> NewFile<R> {
     }
 }
 
-// A new file beside this place, with these permissions. Its number is the first that is free: a
-// program that a signal ended has left its file.
+// Returns a new file beside this place, with these permissions. Its number is the first that is
+// free: a program that a signal ended has left its file.
 fn created<R: Files + AllocGlobal>(
     rt: &R,
     place: &str,
@@ -146,7 +148,7 @@ fn created<R: Files + AllocGlobal>(
     Err(io::Error::from(ErrorKind::AlreadyExists))
 }
 
-// A file of this name, which there is none of yet.
+// Opens a file of this name, which there is none of yet.
 fn open_new<R: Files>(rt: &R, name: &str, mode: u32) -> io::Result<R::File> {
     OpenOptions::new()
         .write(true)

@@ -5,15 +5,16 @@ use std::io;
 use std::io::ErrorKind;
 use std::os::unix::fs::MetadataExt;
 
-// How many links are followed, one after another: as many as Linux follows.
+// Says how many links are followed, one after another: as many as Linux follows.
 const LINKS: u32 = 40;
 
 // Linux's number of ELOOP.
 const TOO_MANY_LINKS: i32 = 40;
 
-/// The name that this one leads to: itself, or for a symbolic link the name that it leads to, and
-/// so on. There may be no file of it. A name in `/dev/fd` or `/proc/self/fd` is a stream's, and
-/// leads to no other.
+/// Returns the name that this one leads to: itself, or for a symbolic link the name that it leads
+/// to, and so on. There may be no file of it. A name in `/dev/fd` or `/proc/self/fd` is a stream's,
+/// and leads to no other. The error is that of the system, or that more than 40 links were
+/// followed.
 pub fn led_to<R: Files + AllocGlobal>(rt: &R, name: &str) -> io::Result<String> {
     let mut place = String::from_str(rt.alloc(), name)?;
     for _ in 0..=LINKS {
@@ -28,12 +29,12 @@ pub fn led_to<R: Files + AllocGlobal>(rt: &R, name: &str) -> io::Result<String> 
     Err(io::Error::from_raw_os_error(TOO_MANY_LINKS))
 }
 
-/// Whether this is the name of an open descriptor.
+/// Returns whether this is the name of an open descriptor.
 pub fn is_descriptor(name: &str) -> bool {
     name.starts_with("/dev/fd/") || name.starts_with("/proc/self/fd/")
 }
 
-/// Whether both are names of one regular file, or the same name of none yet.
+/// Returns whether both are names of one regular file, or the same name of none yet.
 pub fn are_one<R: Files>(files: &R, one: &str, other: &str) -> bool {
     match (metadata(files, one), metadata(files, other)) {
         (Ok(one), Ok(other)) => {
@@ -44,7 +45,8 @@ pub fn are_one<R: Files>(files: &R, one: &str, other: &str) -> bool {
     }
 }
 
-// The name that the link of this name leads to. None, if it is no link, or there is no file.
+// Returns the name that the link of this name leads to. None, if it is no link, or there is no
+// file.
 fn step<R: Files + AllocGlobal>(rt: &R, name: &str) -> io::Result<Option<String>> {
     match symlink_metadata(rt, name) {
         Ok(known) if known.is_symlink() => {
@@ -57,7 +59,7 @@ fn step<R: Files + AllocGlobal>(rt: &R, name: &str) -> io::Result<Option<String>
     }
 }
 
-// The name of the target of the link of this name, which is beside the link.
+// Returns the name of the target of the link of this name, which is beside the link.
 fn joined<R: AllocGlobal>(rt: &R, name: &str, target: &str) -> io::Result<String> {
     if target.starts_with('/') {
         return Ok(String::from_str(rt.alloc(), target)?);

@@ -12,15 +12,15 @@ use std::io::{ErrorKind, IsTerminal, Write};
 /// The output of a program that is given the name of a file.
 #[derive(Drop)]
 pub enum Output {
-    /// To a new file, which is to take the place of the one of this name, or of none.
+    /// Goes to a new file, which is to take the place of the one of this name, or of none.
     New(NewFile<HostRuntime>),
-    /// To a file that is there already and is no regular file, or is open already, as it comes.
+    /// Goes as it comes to a file that is there already and is no regular file, or is open already.
     Stream(Stream),
 }
 
 impl Output {
-    /// The output that is given this name. If it is the name of a link, the name that the link
-    /// leads to is meant, whether there is such a file or not.
+    /// Returns the output that is given this name. If it is the name of a link, the name that the
+    /// link leads to is meant, whether there is such a file or not.
     ///
     /// It goes to a new file, as to [`NewFile::over`], if there is a regular file or none; to
     /// standard output or error if the name is theirs, as `/dev/stdout`; and to the file itself if
@@ -41,7 +41,7 @@ impl Output {
     }
 
     /// Puts a new file in its place if it is whole, as [`NewFile::end`] does; for output that is
-    /// written as it comes there is nothing to do.
+    /// written as it comes there is nothing to do. The error is that of [`NewFile::end`].
     pub fn end(self, rt: &HostRuntime, is_whole: bool) -> Result<(), FileFault<'static>> {
         match self {
             Output::New(new) => new.end(rt, "", is_whole),
@@ -49,7 +49,7 @@ impl Output {
         }
     }
 
-    /// Whether it is a terminal.
+    /// Returns whether it is a terminal.
     pub fn is_terminal(&self) -> bool {
         match self {
             Output::New(_) => false,
@@ -76,7 +76,7 @@ impl Write for Output {
     }
 }
 
-// The standard stream of this name.
+// Returns the standard stream of this name.
 fn standard(rt: &HostRuntime, name: &str) -> Option<Stream> {
     match name {
         "/dev/fd/1" | "/proc/self/fd/1" => Some(Stream::Output(rt.stdout())),
@@ -85,7 +85,7 @@ fn standard(rt: &HostRuntime, name: &str) -> Option<Stream> {
     }
 }
 
-// The output that is given this name, which is that of no link.
+// Returns the output that is given this name, which is that of no link.
 fn at(rt: &HostRuntime, place: &str, suffix: &str) -> Result<Output, FileFault<'static>> {
     match metadata(rt, place) {
         Ok(known) if known.is_dir() => Err(FileFault::folder()),

@@ -14,7 +14,7 @@ pub struct BorrowedTally {
 }
 
 impl BorrowedTally {
-    /// Nothing yet.
+    /// Returns an empty tally.
     pub fn new() -> BorrowedTally {
         BorrowedTally {
             number: 0,
@@ -42,7 +42,7 @@ impl BorrowedTally {
         self.total = self.total.wrapping_add(sum_of(bytes));
     }
 
-    /// The counts.
+    /// Returns the counts.
     pub fn counted(&self) -> Counted {
         Counted::Borrowed(self.number, self.total)
     }

@@ -23,7 +23,7 @@ pub struct Count {
     total: u64,
 }
 
-/// The sum of these bytes.
+/// Returns the sum of these bytes.
 #[inline(always)]
 pub(crate) fn sum_of(text: &[u8]) -> u64 {
     let mut sum = 0u64;
@@ -34,7 +34,7 @@ pub(crate) fn sum_of(text: &[u8]) -> u64 {
 }
 
 impl Count {
-    /// Nothing yet.
+    /// Returns an empty count.
     pub fn new() -> Count {
         Count {
             characters: 0,

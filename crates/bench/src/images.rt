@@ -31,7 +31,7 @@ pub struct Images {
 }
 
 impl Images {
-    /// Nothing yet.
+    /// Returns an empty count.
     pub fn new(alloc: Global) -> Images {
         Images {
             alloc,
@@ -41,19 +41,19 @@ impl Images {
         }
     }
 
-    /// The counts.
+    /// Returns the counts.
     pub fn counted(&self) -> Counted {
         Counted::Images(self.number, self.total)
     }
 
-    // One more image or query, which holds so much.
+    // Counts one more image or query, which holds this many bytes.
     fn add(&mut self, size: usize) {
         self.number = self.number.wrapping_add(1);
         self.total = self.total.wrapping_add(size as u64);
     }
 }
 
-// The number of bytes of the payload, if the image is sent in it.
+// Returns the number of bytes of the payload, if the image is sent in it.
 fn payload_size(image: &KittyImage) -> usize {
     match image {
         KittyImage::TransmitData { transmit, .. }

@@ -1,4 +1,5 @@
-//! How fast a stream is framed, parsed, written and normalised, and its images read.
+//! This module says how fast a stream is framed, parsed, written and normalised, and its images
+//! read.
 //!
 //! `bench [--counts] [MEASURE..] < STREAM` reads a stream whole and prints a line for each measure,
 //! `framing`, `parse`, `parse_borrowed`, `parse_reusing`, `parse_first`, `parse_first_as_vec`,
@@ -28,7 +29,7 @@ use std::process::ExitCode;
 use std::time::Instant;
 use std::{env, io};
 
-/// How often each measure is taken.
+/// Says how often each measure is taken.
 const PASSES: u32 = 5;
 
 fn main(rt: HostRuntime) -> io::Result<ExitCode> {

@@ -40,7 +40,7 @@ pub enum Measure {
     Endless,
 }
 
-/// How often `endless` is given the stream.
+/// Says how often `endless` is given the stream.
 const TIMES: usize = 1000;
 
 /// The limit of `endless`, in bytes.
@@ -62,7 +62,7 @@ impl Measure {
         Measure::Endless,
     ];
 
-    /// The measure that a word asks for.
+    /// Returns the measure that a word asks for.
     pub fn named(word: &str) -> Option<Measure> {
         for measure in Measure::ALL {
             if word == measure.name() {
@@ -72,7 +72,7 @@ impl Measure {
         None
     }
 
-    /// The word that asks for it.
+    /// Returns the word that asks for it.
     pub fn name(self) -> &'static str {
         match self {
             Measure::Framing => "framing",
@@ -106,7 +106,7 @@ impl Measure {
         }
     }
 
-    /// How many bytes a pass reads.
+    /// Returns how many bytes a pass reads.
     pub fn bytes(self, input: Input<'_>) -> usize {
         let bytes = input.bytes.len();
         if self == Measure::Endless {
@@ -123,7 +123,7 @@ impl fmt::Display for Measure {
     }
 }
 
-// The counts, if no call failed.
+// Returns the counts, if no call failed.
 fn ended<E: Drop>(ending: Result<(), E>, counted: Counted) -> Option<Counted> {
     match ending {
         Ok(()) => Some(counted),

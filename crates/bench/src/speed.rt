@@ -9,7 +9,7 @@ pub struct Speed {
 }
 
 impl Speed {
-    /// So many bytes in so many nanoseconds.
+    /// Returns the speed of so many bytes in so many nanoseconds.
     pub fn of(bytes: usize, nanoseconds: u64) -> Speed {
         Speed {
             tenths: (bytes as u128) * 10_000 / u128::from(nanoseconds.max(1)),

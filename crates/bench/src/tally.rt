@@ -16,7 +16,7 @@ pub struct Tally {
 }
 
 impl Tally {
-    /// Nothing yet.
+    /// Returns an empty tally.
     pub fn new() -> Tally {
         Tally {
             number: 0,
@@ -34,7 +34,7 @@ impl Tally {
         }
     }
 
-    /// The counts.
+    /// Returns the counts.
     pub fn counted(&self) -> Counted {
         Counted::Actions(self.number, self.total)
     }

@@ -16,7 +16,7 @@ pub struct Wanted {
 }
 
 impl Wanted {
-    /// The measures without any word.
+    /// Returns the measures without any word.
     pub fn new() -> Wanted {
         Wanted {
             with_speed: true,

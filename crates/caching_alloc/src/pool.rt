@@ -51,7 +51,7 @@ impl<A: Allocator> Pool<A> {
         &self.inner
     }
 
-    // The blocks for requests of `size` bytes.
+    // Returns the blocks for requests of `size` bytes.
     #[inline]
     fn shelf(&self, size: usize) -> &Shelf<A>
         requires { size ≤ 1024 }

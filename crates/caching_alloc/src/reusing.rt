@@ -20,14 +20,14 @@ pub struct Reusing<A: Allocator> {
 }
 
 impl<A: Allocator> Reusing<A> {
-    /// An allocator over `inner` that keeps nothing yet.
+    /// Returns an allocator over `inner` that keeps nothing yet.
     pub fn new(inner: A) -> Reusing<A> {
         Reusing {
             pool: Pool::new(inner),
         }
     }
 
-    /// The inner allocator.
+    /// Returns the inner allocator.
     pub fn inner(&self) -> &A {
         self.pool.inner()
     }

@@ -33,7 +33,7 @@ impl<A: Allocator> Shelf<A> {
         }
     }
 
-    // A block that is kept, or a new one.
+    // Returns a block that is kept, or a new one.
     #[inline]
     pub(crate) fn take(&self, alloc: &A) -> Option<Block<A>>
         requires { self.now.first.0 ≡ alloc.now }
@@ -45,7 +45,7 @@ impl<A: Allocator> Shelf<A> {
         }
     }
 
-    // The same, if the first slot is empty.
+    // Does the same, if the first slot is empty.
     #[inline(never)]
     fn take_other(&self, alloc: &A) -> Option<Block<A>>
         requires { self.now.first.0 ≡ alloc.now }
@@ -74,7 +74,7 @@ impl<A: Allocator> Shelf<A> {
         }
     }
 
-    // The same, past the first slot.
+    // Does the same, past the first slot.
     #[inline(never)]
     fn give_other(&self, alloc: &A, block: Block<A>)
         requires { (self.now.first.0 ≡ alloc.now) × (block.alloc ≡ self.now.first.0)

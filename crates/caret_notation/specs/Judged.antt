@@ -25,7 +25,7 @@ judged admits k v = record {
   follows = is_string v;
 }
 
--- and after some more, which pass or do not, the last of which is a string or is not
+-- the verdict after some more, which pass or do not; the last one is a string or is not
 abbrev pub noted_verdict : Bool → Bool → Verdict → Verdict
 noted_verdict passes is_string k = record {
   some = true;

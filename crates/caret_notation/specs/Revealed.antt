@@ -29,8 +29,8 @@ is_some (_ ∷ _) = true
 abbrev pub are_kept : {A : Type 0} → (Value A → Bool) → List (Value A) → Bool
 are_kept admits vs = is_some vs && all_through admits false vs
 
--- a piece that stays as it is: of at most so many bytes, without marks if these are shown; it means
--- values, each of which passes; and all of its bytes are in the text of these
+-- holds of a piece that stays as it is: of at most so many bytes, without marks if these are shown;
+-- it means values, each of which passes; and all of its bytes are in the text of these
 abbrev pub is_kept : {A : Type 0} → Marking → ℕ → (Value A → Bool) → List ℕ → Bool
 is_kept {A = A} m limit admits p =
     (nat_le (length p) limit && lets_stay m p)

@@ -7,7 +7,7 @@ use Rattle.esc_filter.specs.Lines.{has_line_feed}
 use Rattle.esc_values.specs.Clear.{is_clear}
 use Rattle.caret_notation.specs.Pieces.{is_at_ground}
 
--- characters that are no controls, as UTF-8, each of which is admitted
+-- holds of characters that are no controls, as UTF-8, each of which is admitted
 abbrev pub IsAdmittedText : {A : Type 0} → (Value A → Bool) → List ℕ → Type 0
 IsAdmittedText admits x = (cs : List ℕ) × (list_all is_clear cs ≡ true)
     × (list_all (λ c. admits (print c)) cs ≡ true) × (encode_utf8_all cs ≡ x)

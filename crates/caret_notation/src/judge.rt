@@ -1,4 +1,4 @@
-//! Whether a piece of a stream is kept.
+//! This module says whether a piece of a stream is kept.
 ghost use Rattle.std.specs.Prelude.{◌≡◌, ◌&&◌, ◌++◌, ◌<◌, ◌≤◌, ℕ, List, [], IfOk, IfSome, OnErr, OnOk, Some, false, length, take};
 ghost use Rattle.esc_actions.specs.Values.{plain, value_of};
 ghost use Rattle.esc_frame.specs.Stream.{IsQuietWithin, HasConsumedWithin};
@@ -23,16 +23,16 @@ use std::alloc::{AllocError, Allocator};
 /// The verdict about the actions so far.
 #[derive(Clone, Copy)]
 pub(crate) struct Verdict {
-    /// Whether there are any.
+    /// Says whether there are any.
     pub some: bool,
-    /// Whether each goes through.
+    /// Says whether each goes through.
     pub all: bool,
-    /// Whether the last one is a string.
+    /// Says whether the last one is a string.
     pub follows: bool,
 }
 
 impl Verdict {
-    // The verdict about no action.
+    // Returns the verdict about no action.
     fn begun() -> Verdict
         ensures { result ≡ begun }
     {
@@ -43,8 +43,8 @@ impl Verdict {
         }
     }
 
-    // The verdict after more of them, which pass or do not, the last of which is a string or is
-    // not.
+    // Returns the verdict after more actions, which pass or do not; `is_string` says whether the
+    // last one is a string.
     fn with(self, passes: bool, is_string: bool) -> Verdict
         ensures { result ≡ noted_verdict passes is_string self }
     {
@@ -55,7 +55,7 @@ impl Verdict {
         }
     }
 
-    // Whether a piece with these actions may stay.
+    // Returns whether a piece with these actions may stay.
     fn keeps(self) -> bool
         ensures { result ≡ (self.some && self.all) }
     {
@@ -114,7 +114,7 @@ impl<'p, P: Admit<A>, A: Allocator> Sink<Action<A>> for Judge<'p, P> {
         Ok(true)
     }
 
-    // The same for a command.
+    // Does the same for a command.
     fn receive_command(&mut self, text: &[u8]) -> Result<bool, AllocError> {
         let Some(passes) = self.policy.admits_command(text) else {
             return Ok(false);
@@ -136,7 +136,7 @@ impl<'p, P: Admit<A>, A: Allocator> Sink<Action<A>> for Judge<'p, P> {
     }
 }
 
-// A performer that asks this policy about actions, and was given none.
+// Returns a performer that asks this policy about actions, and was given none.
 fn unasked<P, A: Allocator + Copy>(alloc: A, policy: &P, limit: usize) -> Performer<Judge<'_, P>, A>
     ensures hooks { Hooks (Some limit) result.unfinished plain }
     ensures verdict { result.sink.verdict ≡ begun }
@@ -183,7 +183,7 @@ pub(crate) fn judge_piece<P: Admit<A>, A: Allocator + Copy>(
     Ok((at, performer.sink.verdict.keeps()))
 }
 
-// Whether the control that comes first passes. None if none comes first.
+// Returns whether the control that comes first passes. None if none comes first.
 fn judge_control<P: Admit<A>, A: Allocator>(
     framer: &VTParser<A>,
     policy: &P,
@@ -238,8 +238,8 @@ fn judge_all<P: Admit<A>, A: Allocator + Copy>(
     }
 }
 
-/// Whether the piece, which the framer was fed, stays: each value that it means goes through, and
-/// all of its bytes are in the text of these. The framer was fed it again.
+/// Returns whether the piece, which the framer was fed, stays: each value that it means goes
+/// through, and all of its bytes are in the text of these. The framer was fed it again.
 pub(crate) fn stays_spelled<P: Admit<A>, A: Allocator + Copy>(
     alloc: A,
     framer: &mut VTParser<A>,
@@ -262,7 +262,7 @@ pub(crate) fn stays_spelled<P: Admit<A>, A: Allocator + Copy>(
     }
 }
 
-// Whether the piece means values, and each of them goes through.
+// Returns whether the piece means values, and each of them goes through.
 fn stays<P: Admit<A>, A: Allocator + Copy>(
     alloc: A,
     framer: &mut VTParser<A>,

@@ -20,7 +20,7 @@ pub(crate) struct Kept<A: Allocator = Global> {
 }
 
 impl<A: Allocator> Kept<A> {
-    /// Nothing. Takes no memory.
+    /// Returns an empty piece. Takes no memory.
     pub fn new(alloc: A) -> Kept<A>
         ensures { (limit : ℕ) → Keeps limit [] result }
     {
@@ -31,7 +31,7 @@ impl<A: Allocator> Kept<A> {
         }
     }
 
-    /// Whether no byte of a piece has come.
+    /// Returns whether no byte of a piece has come.
     #[inline]
     pub fn is_empty(&self) -> bool
         ensures { (limit : ℕ) (r : List ℕ) → Keeps limit r self.now → IsTrue result ↔ (r ≡ []) }
@@ -87,7 +87,7 @@ impl<A: Allocator> Kept<A> {
         Ok(())
     }
 
-    /// The bytes, if the piece is within the limit.
+    /// Returns the bytes, if the piece is within the limit.
     pub fn piece(&self) -> Option<&[u8]>
         ensures { (limit : ℕ) (r : List ℕ) → Keeps limit r self.now → MatchOption result
             (nat_le (length r) limit ≡ false)

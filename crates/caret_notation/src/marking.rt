@@ -18,7 +18,7 @@ pub enum Marking {
 }
 
 impl Marking {
-    /// Whether a piece of these bytes may stay.
+    /// Returns whether a piece of these bytes may stay.
     pub(crate) fn lets_stay(self, piece: &[u8]) -> bool
         ensures { result ≡ lets_stay self piece.now }
     {
@@ -28,7 +28,7 @@ impl Marking {
         }
     }
 
-    /// The text before bytes that are shown.
+    /// Returns the text before bytes that are shown.
     pub(crate) fn opening(self) -> &'static [u8]
         ensures { result.now ≡ opening self }
     {
@@ -38,7 +38,7 @@ impl Marking {
         }
     }
 
-    /// The text after them.
+    /// Returns the text after them.
     pub(crate) fn closing(self) -> &'static [u8]
         ensures { result.now ≡ closing self }
     {
@@ -49,7 +49,7 @@ impl Marking {
     }
 }
 
-// Whether `^` or `<` is among the bytes.
+// Returns whether `^` or `<` is among the bytes.
 fn has_mark(bytes: &[u8]) -> bool
     ensures { result ≡ list_any is_mark bytes.now }
 {

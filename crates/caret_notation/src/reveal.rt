@@ -20,7 +20,7 @@ use esc_frame::VTParser;
 use memchr::memchr;
 use std::alloc::{AllocError, Allocator, Global};
 
-// How many bytes a character has at most.
+// Says how many bytes a character has at most.
 const MOST_BYTES: usize = 4;
 
 /// The rule for a stream: the length of the longest piece, whether a line feed ends one, and the
@@ -29,9 +29,9 @@ const MOST_BYTES: usize = 4;
 pub(crate) struct Rule<P> {
     /// The policy that admits actions.
     pub policy: P,
-    /// How many bytes a piece that is kept has at most.
+    /// Says how many bytes a piece that is kept has at most.
     pub limit: usize,
-    /// Whether a line feed ends a piece.
+    /// Says whether a line feed ends a piece.
     pub by_lines: bool,
     /// The way in which shown text is told from text that stays.
     pub marking: Marking,
@@ -66,8 +66,8 @@ pub struct Reveal<P, A: Allocator = Global> {
 impl<P: Admit<A>, A: Allocator + Copy> Reveal<P, A> {
     ghost use Rattle.caret_notation.specs.Fed.{AddsTo, AtPieceEnd, AtRest, EndsAs, FailsForGood, GrowsTo, Holds, IsFramed, TakesSome, HasConsumed, added_by, by_lines_of, closed_text, limit_of, marking_of, policy_of};
 
-    /// One at the beginning of a stream, which keeps a piece of at most `limit` bytes. Takes no
-    /// memory.
+    /// Returns a writer at the beginning of a stream, which keeps a piece of at most `limit` bytes.
+    /// Takes no memory.
     pub fn new(alloc: A, limit: usize, policy: P, by_lines: bool) -> Reveal<P, A>
         ensures fed { HasConsumed [] result }
         ensures limit { limit_of result ≡ limit }
@@ -77,7 +77,7 @@ impl<P: Admit<A>, A: Allocator + Copy> Reveal<P, A> {
         Reveal::with_marking(alloc, limit, policy, by_lines, Marking::Plain)
     }
 
-    /// The same, if shown text is told from text that stays in this way.
+    /// Returns the same writer, with shown text told from text that stays in this way.
     pub fn with_marking(
         alloc: A,
         limit: usize,
@@ -160,7 +160,7 @@ impl<P: Admit<A>, A: Allocator + Copy> Reveal<P, A> {
         }
     }
 
-    /// The bytes that the last call added.
+    /// Returns the bytes that the last call added.
     pub fn added(&self) -> &[u8]
         ensures { result.now ≡ added_by self.now }
     {
@@ -198,7 +198,7 @@ impl<P: Admit<A>, A: Allocator + Copy> Reveal<P, A> {
         Ok(run)
     }
 
-    // How many bytes come before the first line feed that ends a piece.
+    // Returns how many bytes come before the first line feed that ends a piece.
     fn open_run(&self, bytes: &[u8]) -> usize
         ensures few { result ≤ length bytes.now }
         ensures lineless { has_line_end (by_lines_of self.now) (take result bytes.now) ≡ false }
@@ -248,8 +248,8 @@ impl<P: Admit<A>, A: Allocator + Copy> Reveal<P, A> {
         Ok(run)
     }
 
-    // The length of a run of characters that comes first and stays as it is, if no segment is
-    // unfinished; 0 if none is seen at once.
+    // Returns the length of a run of characters that comes first and stays as it is, if no segment
+    // is unfinished; 0 if none is seen at once.
     fn text_run(&self, bytes: &[u8]) -> usize
         requires { 0 < length bytes.now }
         ensures few { result ≤ length bytes.now }
@@ -355,7 +355,7 @@ impl<P: Admit<A>, A: Allocator + Copy> Reveal<P, A> {
         }
     }
 
-    // Whether the piece stays as it is.
+    // Returns whether the piece stays as it is.
     fn is_kept(&mut self) -> Result<bool, AllocError>
         ensures given { (r : List ℕ) → AtRest r self.old → IfOk result
             (λ k. AtRest r self.new

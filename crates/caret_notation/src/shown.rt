@@ -66,7 +66,7 @@ pub(crate) fn push_runs<A: Allocator>(
     Ok(last)
 }
 
-// The same for some of these bytes, at least one, and how many.
+// Does the same for some of these bytes, at least one, and returns how many.
 fn push_some<A: Allocator>(
     text: &mut Vec<u8, A>,
     begun: Pending,
@@ -87,7 +87,7 @@ fn push_some<A: Allocator>(
     }
 }
 
-// The same if no character has begun.
+// Does the same if no character has begun.
 fn push_plain<A: Allocator>(
     text: &mut Vec<u8, A>,
     bytes: &[u8],
@@ -107,7 +107,7 @@ fn push_plain<A: Allocator>(
     Ok((Pending::Nothing, run))
 }
 
-// The same for the first byte.
+// Does the same for the first byte.
 fn push_one<A: Allocator>(
     text: &mut Vec<u8, A>,
     begun: Pending,
@@ -124,7 +124,7 @@ fn push_one<A: Allocator>(
     Ok((next, 1))
 }
 
-// The length of the longest prefix of characters of ASCII that show as themselves.
+// Returns the length of the longest prefix of characters of ASCII that show as themselves.
 fn plain_run(bytes: &[u8]) -> usize
     ensures few { result ≤ length bytes.now }
     ensures plain { list_all is_plain (take result bytes.now) ≡ true }
@@ -136,7 +136,7 @@ fn plain_run(bytes: &[u8]) -> usize
     at
 }
 
-// Whether the byte is such a character.
+// Returns whether the byte is such a character.
 fn is_plain(byte: u8) -> bool
     ensures { result ≡ is_plain byte }
 {

@@ -1,4 +1,4 @@
-//! Whether all of a piece is in the text of its meaning.
+//! This module says whether all of a piece is in the text of its meaning.
 ghost use Rattle.std.specs.Prelude.{◌≡◌, ◌&&◌, ◌≤◌, IfOk, OnErr, Some, length, nat_le};
 ghost use Rattle.esc_normal.specs.Normalising.{normal_form};
 ghost use Rattle.caret_notation.specs.Spelled.{digits_after, ends_in_bell, is_body, is_end, is_control_sequence, is_single, is_spelled, is_text_of, most_digits};
@@ -13,7 +13,7 @@ use std::alloc::{AllocError, Allocator};
 // Digits that a number of 64 bits holds, whatever they are.
 const MOST_DIGITS: usize = 18;
 
-/// Whether the piece stays, if each value that it means passes, or does not.
+/// Returns whether the piece stays, if each value that it means passes, or does not.
 pub(crate) fn may_stay<A: Allocator + Copy>(
     alloc: A,
     marking: Marking,
@@ -33,8 +33,8 @@ pub(crate) fn may_stay<A: Allocator + Copy>(
     }
 }
 
-/// Whether all bytes of the piece are in the text of its meaning. That text is made if the piece is
-/// neither a byte of ASCII nor a control sequence.
+/// Returns whether all bytes of the piece are in the text of its meaning. That text is made if the
+/// piece is neither a byte of ASCII nor a control sequence.
 pub(crate) fn is_spelled<A: Allocator + Copy>(
     alloc: A,
     limit: usize,
@@ -53,14 +53,14 @@ pub(crate) fn is_spelled<A: Allocator + Copy>(
     }
 }
 
-// Whether the piece is one byte of ASCII.
+// Returns whether the piece is one byte of ASCII.
 fn is_single(piece: &[u8]) -> bool
     ensures { result ≡ is_single piece.now }
 {
     piece.len() == 1 && piece[0] < 0x80
 }
 
-// Whether the piece is a control sequence with no control in it, of numbers of few digits.
+// Returns whether the piece is a control sequence with no control in it, of numbers of few digits.
 fn is_control_sequence(piece: &[u8]) -> bool
     ensures { result ≡ is_control_sequence piece.now }
 {
@@ -72,7 +72,7 @@ fn is_control_sequence(piece: &[u8]) -> bool
         && is_body(&piece[2..n - 1])
 }
 
-// Whether the bytes are parameters and intermediates, with not too many digits in a row.
+// Returns whether the bytes are parameters and intermediates, with not too many digits in a row.
 fn is_body(bytes: &[u8]) -> bool
     ensures { result ≡ is_body bytes.now }
 {
@@ -88,7 +88,7 @@ fn is_body(bytes: &[u8]) -> bool
     true
 }
 
-// The number of last digits after this byte, if there were so many before it.
+// Returns the number of last digits after this byte, if there were so many before it.
 fn digits_after(digits: usize, byte: u8) -> Option<usize>
     ensures { result ≡ digits_after digits byte }
 {
@@ -123,7 +123,8 @@ fn is_final(byte: u8) -> bool
     0x40 <= byte && byte <= 0x7e
 }
 
-// Whether the text is the piece, or the piece with `ESC \` in the place of the BEL that ends it.
+// Returns whether the text is the piece, or the piece with `ESC \` in the place of the BEL that
+// ends it.
 fn is_text_of(piece: &[u8], text: &[u8]) -> bool
     ensures { result ≡ is_text_of piece.now text.now }
 {
@@ -132,14 +133,14 @@ fn is_text_of(piece: &[u8], text: &[u8]) -> bool
     text == piece || (ends_in_bell(piece) && is_end(&text[end..]) && text[..end] == piece[..last])
 }
 
-// Whether the last of the bytes is BEL.
+// Returns whether the last of the bytes is BEL.
 fn ends_in_bell(bytes: &[u8]) -> bool
     ensures { result ≡ ends_in_bell bytes.now }
 {
     !bytes.is_empty() && bytes[bytes.len() - 1] == 0x07
 }
 
-// Whether the bytes are `ESC \`.
+// Returns whether the bytes are `ESC \`.
 fn is_end(bytes: &[u8]) -> bool
     ensures { result ≡ is_end bytes.now }
 {

@@ -13,8 +13,8 @@ use memchr::memchr2;
 use simdutf8::basic::from_utf8;
 use std::alloc::Allocator;
 
-/// The length of a run of characters that comes first, each of which the policy admits: of ASCII,
-/// 20 to 7F, or in UTF-8, without marks if these are shown. It is 0 if none is seen at once.
+/// Returns the length of a run of characters that comes first, each of which the policy admits: of
+/// ASCII, 20 to 7F, or in UTF-8, without marks if these are shown. It is 0 if none is seen at once.
 #[inline]
 pub(crate) fn admitted_run<P: Admit<A>, A: Allocator>(
     policy: &P,
@@ -35,7 +35,7 @@ pub(crate) fn admitted_run<P: Admit<A>, A: Allocator>(
     }
 }
 
-// The same for a run of ASCII.
+// Does the same for a run of ASCII.
 #[inline]
 fn ascii_admitted<P: Admit<A>, A: Allocator>(policy: &P, marking: Marking, bytes: &[u8]) -> usize
     ensures few { result ≤ length bytes.now }
@@ -50,7 +50,7 @@ fn ascii_admitted<P: Admit<A>, A: Allocator>(policy: &P, marking: Marking, bytes
     }
 }
 
-// In UTF-8. Bytes that begin no character show that at once.
+// Does the same in UTF-8. Bytes that begin no character show that at once.
 fn wide_admitted<P: Admit<A>, A: Allocator>(policy: &P, marking: Marking, bytes: &[u8]) -> usize
     ensures few { result ≤ length bytes.now }
     ensures text { IsAdmittedText (P.admits policy.now) (take result bytes.now) }
@@ -66,7 +66,8 @@ fn wide_admitted<P: Admit<A>, A: Allocator>(policy: &P, marking: Marking, bytes:
     }
 }
 
-// How many of the first bytes, at most this number, may stay: all, or those before the first mark.
+// Returns how many of the first bytes, at most this number, may stay: all, or those before the
+// first mark.
 #[inline]
 fn unmarked_run(marking: Marking, bytes: &[u8], run: usize) -> usize
     requires { run ≤ length bytes.now }
@@ -79,7 +80,7 @@ fn unmarked_run(marking: Marking, bytes: &[u8], run: usize) -> usize
     }
 }
 
-// The place of the first `^` or `<`, or the length if there is none.
+// Returns the place of the first `^` or `<`, or the length if there is none.
 fn mark_at(bytes: &[u8]) -> usize
     ensures few { result ≤ length bytes.now }
     ensures unmarked { list_any is_mark (take result bytes.now) ≡ false }

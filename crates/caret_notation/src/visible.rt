@@ -34,7 +34,7 @@ pub(crate) fn push_next<A: Allocator>(
     }
 }
 
-// A byte after no begun character.
+// Takes a byte after no begun character.
 #[tactic(auto, unfolding(esc_frame::specs::Sequences::is_prefix))]
 fn push_first<A: Allocator>(text: &mut Vec<u8, A>, byte: u8) -> Result<Pending, AllocError>
     ensures ok { IfOk result (λ p. (text.new.items ≡ text.old.items ++ first_text byte)
@@ -48,7 +48,7 @@ fn push_first<A: Allocator>(text: &mut Vec<u8, A>, byte: u8) -> Result<Pending, 
     Ok(Pending::Nothing)
 }
 
-// A byte that is a character by itself, or no part of one.
+// Appends a byte that is a character by itself, or no part of one.
 fn push_single<A: Allocator>(text: &mut Vec<u8, A>, byte: u8) -> Result<(), AllocError>
     ensures ok { OnOk result (text.new.items ≡ text.old.items ++ single_text byte) }
     ensures refused { OnErr result (Refused A) }
@@ -60,7 +60,7 @@ fn push_single<A: Allocator>(text: &mut Vec<u8, A>, byte: u8) -> Result<(), Allo
     }
 }
 
-// A byte below 80.
+// Appends a byte below 80.
 fn push_ascii<A: Allocator>(text: &mut Vec<u8, A>, byte: u8) -> Result<(), AllocError>
     ensures ok { OnOk result (text.new.items ≡ text.old.items ++ ascii_text byte) }
     ensures refused { OnErr result (Refused A) }
@@ -73,7 +73,7 @@ fn push_ascii<A: Allocator>(text: &mut Vec<u8, A>, byte: u8) -> Result<(), Alloc
     }
 }
 
-// One from 20 on.
+// Appends a byte from 20 on.
 fn push_printed<A: Allocator>(text: &mut Vec<u8, A>, byte: u8) -> Result<(), AllocError>
     ensures ok { OnOk result (text.new.items ≡ text.old.items ++ printed_text byte) }
     ensures refused { OnErr result (Refused A) }
@@ -87,14 +87,14 @@ fn push_printed<A: Allocator>(text: &mut Vec<u8, A>, byte: u8) -> Result<(), All
     }
 }
 
-/// Whether the notation begins with the byte.
+/// Returns whether the notation begins with the byte.
 pub(crate) fn is_mark(byte: u8) -> bool
     ensures { result ≡ is_mark byte }
 {
     byte == b'<' || byte == b'^'
 }
 
-// A byte by its number.
+// Appends a byte by its number.
 fn push_hex<A: Allocator>(text: &mut Vec<u8, A>, byte: u8) -> Result<(), AllocError>
     ensures ok { OnOk result (text.new.items ≡ text.old.items ++ hex_byte byte) }
     ensures refused { OnErr result (Refused A) }
@@ -128,7 +128,7 @@ pub(crate) fn push_stray<A: Allocator>(
     }
 }
 
-// A character: these bytes of it had begun, and this is the last.
+// Appends a character: these bytes of it had begun, and this is the last.
 fn push_character<A: Allocator>(
     text: &mut Vec<u8, A>,
     begun: Pending,

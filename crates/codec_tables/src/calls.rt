@@ -17,7 +17,7 @@ use esc_values::scalar::text_in;
 use failing_alloc::Refusing;
 use std::alloc::{AllocError, Global};
 
-/// The result of a call with this input, if its memory comes from the heap.
+/// Returns the result of a call with this input, if its memory comes from the heap.
 ///
 /// - `link` and `link-with-id`: the Debug text and the text of `Hyperlink::new`, and of
 ///   `Hyperlink::new_with_id` for the address `x`.
@@ -71,7 +71,7 @@ pub fn answer(
     }
 }
 
-// The same for streams and for sixel images.
+// Does the same for streams and for sixel images.
 fn of_stream(
     call: &str,
     alloc: Global,
@@ -92,7 +92,7 @@ fn of_stream(
     }
 }
 
-// The same for allocators, and for the parser that is lent its memory.
+// Does the same for allocators, and for the parser that is lent its memory.
 fn of_allocator(
     call: &str,
     alloc: Global,
@@ -111,7 +111,7 @@ fn of_allocator(
     }
 }
 
-/// The text of these bytes, empty if they are none.
+/// Returns the text of these bytes, empty if they are none.
 pub fn text(bytes: &[u8]) -> &str {
     text_in(bytes).unwrap_or("")
 }

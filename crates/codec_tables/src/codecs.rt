@@ -11,12 +11,12 @@ use failing_alloc::Refusing;
 use std::alloc::{AllocError, Allocator, Global};
 use std::fmt::{Debug, Display};
 
-/// The Debug text of a value.
+/// Returns the Debug text of a value.
 pub fn emitted<T: Debug + Drop>(alloc: Global, value: T) -> Result<String, AllocError> {
     format!(in alloc; "{value:?}")
 }
 
-/// The Debug text and the text of a value, if there was memory for it.
+/// Returns the Debug text and the text of a value, if there was memory for it.
 pub fn displayed<T: Debug + Display + Drop>(
     alloc: Global,
     value: Result<T, AllocError>,
@@ -27,8 +27,8 @@ pub fn displayed<T: Debug + Display + Drop>(
     }
 }
 
-/// The text of the value that an application program command's data means, `none` if there is no
-/// value, and `as it came` if the text is this data.
+/// Returns the text of the value that an application program command's data means, `none` if there
+/// is no value, and `as it came` if the text is this data.
 pub fn written<T: Display + Drop>(
     alloc: Global,
     value: Result<Option<T>, AllocError>,
@@ -54,7 +54,7 @@ fn compared(
     }
 }
 
-/// The result of a call with the parts between `;`.
+/// Returns the result of a call with the parts between `;`.
 pub fn of_parts(
     call: &str,
     alloc: Global,
@@ -80,7 +80,7 @@ fn of_slices<A: Allocator + Copy>(
     }
 }
 
-/// The parts of a text between this byte; no text has no parts.
+/// Returns the parts of a text between this byte; no text has no parts.
 pub fn parts_of(alloc: Global, text: &[u8], mark: u8) -> Result<Vec<&[u8]>, AllocError> {
     let mut parts = Vec::new(alloc);
     match add_parts(&mut parts, text, mark) {
@@ -98,12 +98,12 @@ fn add_parts<'a>(parts: &mut Vec<&'a [u8]>, text: &'a [u8], mark: u8) -> Result<
     Ok(())
 }
 
-/// The bytes that a text in base64 means, and the text of these.
+/// Returns the bytes that a text in base64 means, and the text of these.
 pub fn base64(alloc: Global, heap: &Refusing<Global>, text: &[u8]) -> Result<String, AllocError> {
     both(alloc, read_base64(heap, text), read_base64_text(heap, text))
 }
 
-// The Debug texts of two values, if there was memory for both.
+// Returns the Debug texts of two values, if there was memory for both.
 fn both<T: Debug + Drop, U: Debug + Drop>(
     alloc: Global,
     one: Result<T, AllocError>,
@@ -115,7 +115,7 @@ fn both<T: Debug + Drop, U: Debug + Drop>(
     }
 }
 
-/// An image of these bytes, without keys.
+/// Returns an image of these bytes, without keys.
 pub fn bytes_image<A: Allocator>(alloc: A, bytes: &[u8]) -> Result<KittyImage<A>, AllocError> {
     match Items::from_slice(alloc, bytes) {
         Ok(bytes) => Ok(transmitted(KittyImageData::DirectBin(bytes))),

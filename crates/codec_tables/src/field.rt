@@ -1,7 +1,7 @@
 //! The bytes that the fields of a row stand for.
 use std::alloc::{AllocError, Global};
 
-/// The bytes of a field: `\xNN` is a byte, and any other character is itself, in UTF-8.
+/// Returns the bytes of a field: `\xNN` is a byte, and any other character is itself, in UTF-8.
 pub fn unescaped(alloc: Global, field: &str) -> Result<Vec<u8>, AllocError> {
     let mut bytes = Vec::new(alloc);
     match add(&mut bytes, field) {
@@ -10,7 +10,7 @@ pub fn unescaped(alloc: Global, field: &str) -> Result<Vec<u8>, AllocError> {
     }
 }
 
-/// The bytes of a field, in which `{TEXT*N}` is the text so many times.
+/// Returns the bytes of a field, in which `{TEXT*N}` is the text so many times.
 pub fn expanded(alloc: Global, field: &str) -> Result<Vec<u8>, AllocError> {
     let mut bytes = Vec::new(alloc);
     match add_expanded(alloc, &mut bytes, field) {
@@ -28,7 +28,7 @@ struct Repeated<'a> {
     after: &'a str,
 }
 
-// The repeated text in a field, if there is one.
+// Returns the repeated text in a field, if there is one.
 fn repetition(field: &str) -> Option<Repeated<'_>> {
     let (before, rest) = field.split_once('{')?;
     let (text, rest) = rest.rsplit_once('*')?;
@@ -75,7 +75,7 @@ fn add_escape(bytes: &mut Vec<u8>, input_chunk: &[u8]) -> Result<(), AllocError>
     bytes.extend_from_slice(rest)
 }
 
-// The value of a hexadecimal digit.
+// Returns the value of a hexadecimal digit.
 fn digit(byte: u8) -> u8 {
     match byte {
         b'0'..=b'9' => byte - b'0',

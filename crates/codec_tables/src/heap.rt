@@ -4,7 +4,7 @@ use std::alloc::{Allocator, Global};
 
 const ITEMS: u64 = 100;
 
-/// Whether it refuses the requests that it is asked to refuse, and no others.
+/// Returns whether it refuses the requests that it is asked to refuse, and no others.
 pub fn is_exact(alloc: Global) -> bool {
     let heap = Refusing::new(alloc);
     let refused = refused_pushes(&heap);
@@ -25,7 +25,7 @@ fn refused_pushes(heap: &Refusing<Global>) -> u64 {
     refused
 }
 
-// Each growth in turn, and none if a later request is to be refused.
+// Returns whether each growth in turn is refused, and none if a later request is to be refused.
 fn refuses_each(heap: &Refusing<Global>, growths: u64) -> bool {
     let mut is_right = true;
     for at in 1..=growths.saturating_add(1) {
@@ -38,13 +38,13 @@ fn refuses_each(heap: &Refusing<Global>, growths: u64) -> bool {
     is_right && heap.requests() == growths
 }
 
-// Whether there is room for one item more than there was.
+// Returns whether there is room for one item more than there was.
 fn grows<A: Allocator>(items: &mut Vec<u8, A>) -> bool {
     let more = items.capacity().saturating_add(1);
     items.reserve(more).is_ok() && items.capacity() >= more
 }
 
-// The second growth, after which the items have the room that they had.
+// Returns whether the second growth is refused, after which the items have the room that they had.
 fn refuses_a_growth(heap: &Refusing<Global>) -> bool {
     heap.refuse_at(2);
     let mut items = Vec::new(heap);
@@ -57,7 +57,7 @@ fn refuses_a_growth(heap: &Refusing<Global>) -> bool {
     is_first && !is_second && is_kept && is_third && is_pushed
 }
 
-// A number in a block of its own, which is given back then.
+// Returns a number in a block of its own, which is given back then.
 fn boxed(heap: &Refusing<Global>, number: u8) -> Option<u8> {
     match Box::new(heap, number) {
         Ok(boxed) => Some(*boxed),

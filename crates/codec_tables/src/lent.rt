@@ -10,12 +10,13 @@ use heapless_parser::next::next;
 use heapless_parser::parser::EscParser;
 use std::alloc::{AllocError, Global};
 
-/// Whether both are the same.
+/// Returns whether both are the same.
 pub fn compared(alloc: Global, stream: &[u8]) -> Result<String, AllocError> {
     emitted(alloc, is_same_in_input_chunks(alloc, stream))
 }
 
-/// The number of the first stream of noise whose events differ. Its chunks are those between `|`.
+/// Returns the number of the first stream of noise whose events differ. Its chunks are those
+/// between `|`.
 pub fn noise_compared(alloc: Global, text: &[u8]) -> Result<String, AllocError> {
     match &parts_of(alloc, text, b'|') {
         Ok(input_chunks) => emitted(alloc, first_other(alloc, input_chunks)),
@@ -32,7 +33,7 @@ fn first_other(alloc: Global, input_chunks: &[&[u8]]) -> Option<u64> {
     None
 }
 
-// The same for the noise of this number.
+// Does the same for the noise of this number.
 fn is_noise_same(alloc: Global, input_chunks: &[&[u8]], seed: u64) -> bool {
     match &noise(alloc, input_chunks, seed) {
         Ok(stream) => is_same_in_input_chunks(alloc, stream),
@@ -45,7 +46,7 @@ const NOISES: u64 = 400;
 
 const LENGTH: usize = 60;
 
-// A stream of these chunks, by this number.
+// Returns a stream of these chunks, by this number.
 fn noise(alloc: Global, input_chunks: &[&[u8]], seed: u64) -> Result<Vec<u8>, AllocError> {
     let mut stream = Vec::new(alloc);
     match add_noise(input_chunks, seed, &mut stream) {
@@ -68,7 +69,7 @@ fn add_noise(input_chunks: &[&[u8]], seed: u64, stream: &mut Vec<u8>) -> Result<
     Ok(())
 }
 
-// The text of an event in the upper half of the buffer.
+// Returns the text of an event in the upper half of the buffer.
 fn text_of<'a>(event: &EscEvent, buffer: &'a [u8]) -> &'a [u8] {
     let half = buffer.len() / 2;
     let out = &buffer[half..];
@@ -79,7 +80,7 @@ fn text_of<'a>(event: &EscEvent, buffer: &'a [u8]) -> &'a [u8] {
     &out[..length]
 }
 
-// The run of an event in the bytes of the call.
+// Returns the run of an event in the bytes of the call.
 fn run_of<'a>(event: &EscEvent, bytes: &'a [u8]) -> &'a [u8] {
     if event.kind != TEXT && event.kind != DATA {
         return &[];
@@ -106,7 +107,7 @@ fn feed(parser: &mut EscParser, buffer: &mut [u8], input_chunk: &[u8], log: &mut
     }
 }
 
-// The events of the stream, in chunks of this size.
+// Returns the events of the stream, in chunks of this size.
 fn by_input_chunks(alloc: Global, stream: &[u8], size: usize) -> Log
     requires { 0 < size }
 {
@@ -119,7 +120,7 @@ fn by_input_chunks(alloc: Global, stream: &[u8], size: usize) -> Log
     log
 }
 
-// The events of the stream, whole.
+// Returns the events of the stream, whole.
 fn by_parser(alloc: Global, stream: &[u8]) -> Log {
     let mut log = Log::new(alloc);
     let mut parser = VTParser::with_limit(alloc, 32);
@@ -129,12 +130,12 @@ fn by_parser(alloc: Global, stream: &[u8]) -> Log {
     log
 }
 
-// Whether two logs have the same, and all of it.
+// Returns whether two logs have the same, and all of it.
 fn is_same(one: &Log, other: &Log) -> bool {
     !one.is_refused && !other.is_refused && one.items.as_slice() == other.items.as_slice()
 }
 
-// Whether both are the same, in chunks of each size.
+// Returns whether both are the same, in chunks of each size.
 fn is_same_in_input_chunks(alloc: Global, stream: &[u8]) -> bool {
     let wanted = by_parser(alloc, stream);
     let mut is_right = true;

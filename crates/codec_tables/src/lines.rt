@@ -2,8 +2,8 @@
 use line_collapse::LineCollapser;
 use std::alloc::{AllocError, Allocator, Global};
 
-/// The final lines of a stream, if so many rows of so many columns may be written again: the text
-/// of the rows that became final, and then of those that were left.
+/// Returns the final lines of a stream, if so many rows of so many columns may be written again:
+/// the text of the rows that became final, and then of those that were left.
 pub fn left<A: Allocator + Copy>(
     alloc: Global,
     heap: A,

@@ -16,7 +16,7 @@ pub struct Log {
 }
 
 impl Log {
-    /// Nothing yet.
+    /// Returns an empty log.
     pub fn new(alloc: Global) -> Log {
         Log {
             items: Vec::new(alloc),
@@ -42,7 +42,7 @@ impl Log {
         self.add(-1);
     }
 
-    // An escape sequence or a string: its final byte, its text or its parameters, its
+    // Writes an escape sequence or a string: its final byte, its text or its parameters, its
     // intermediates, and whether there were more of these.
     fn put_string(&mut self, kind: u32, byte: u32, text: &[u8], others: &[u8], has_more: bool) {
         self.put(kind, byte);
@@ -101,7 +101,7 @@ impl Log {
     }
 }
 
-// The intermediates of an event.
+// Returns the intermediates of an event.
 fn kept(event: &EscEvent) -> &[u8] {
     &event.intermediates[..event.kept.min(2)]
 }

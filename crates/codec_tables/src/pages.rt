@@ -2,7 +2,7 @@
 use esc_html::HtmlWriter;
 use std::alloc::{AllocError, Allocator, Global};
 
-/// The HTML of a stream, with the tags that close it.
+/// Returns the HTML of a stream, with the tags that close it.
 pub fn page<A: Allocator + Copy>(
     alloc: Global,
     heap: A,

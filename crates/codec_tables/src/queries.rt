@@ -3,7 +3,8 @@ use esc_values::{Items, Text};
 use std::alloc::{AllocError, Allocator, Global};
 use xtgettcap::{GetTcapBuilder, TcapQuery};
 
-/// The number of names of a query whose data is written as it came. Its bytes are taken one by one.
+/// Returns the number of names of a query whose data is written as it came. Its bytes are taken one
+/// by one.
 pub fn query_of<A: Allocator + Copy>(
     alloc: Global,
     heap: A,

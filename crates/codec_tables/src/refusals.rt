@@ -9,9 +9,9 @@ const MOST_REQUESTS: u64 = 1000;
 // A call of a longer input is refused none.
 const REFUSED_UP_TO: usize = 2000;
 
-/// The number of requests of a call that end in an error of memory, if the first is refused, then
-/// the second, and so on, until none meets the refusal. None if the call returns anything but the
-/// wanted result and such an error, or too many requests are made.
+/// Returns the number of requests of a call that end in an error of memory, if the first is
+/// refused, then the second, and so on, until none meets the refusal. None if the call returns
+/// anything but the wanted result and such an error, or too many requests are made.
 pub fn errors_of(alloc: Global, call: &str, input: &[u8], wanted: &[u8]) -> Option<usize> {
     let heap = Refusing::new(alloc);
     let mut errors = 0usize;

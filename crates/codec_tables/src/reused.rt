@@ -6,21 +6,21 @@ use failing_alloc::Refusing;
 use linked_list_allocator::LocalHeap;
 use std::alloc::{AllocError, Allocator, Global};
 
-/// The number of requests that reach the allocator below, if blocks of these sizes are held in
-/// turn.
+/// Returns the number of requests that reach the allocator below, if blocks of these sizes are held
+/// in turn.
 pub fn in_turn(alloc: Global, below: &Refusing<Global>, sizes: &str) -> Result<String, AllocError> {
     let memory = Reusing::new(below);
     requests(alloc, below, hold_each(&memory, sizes))
 }
 
-/// The number of those that reach it if this many blocks of one size, and the block of their list,
-/// are held at once ten times.
+/// Returns the number of those that reach it if this many blocks of one size, and the block of
+/// their list, are held at once ten times.
 pub fn at_once(alloc: Global, below: &Refusing<Global>, count: &str) -> Result<String, AllocError> {
     let memory = Reusing::new(below);
     requests(alloc, below, hold_rounds(&memory, count))
 }
 
-// The requests, if there was memory for all that was to be held.
+// Returns the requests, if there was memory for all that was to be held.
 fn requests(alloc: Global, below: &Refusing<Global>, is_held: bool) -> Result<String, AllocError> {
     if is_held {
         emitted(alloc, below.requests())
@@ -29,8 +29,8 @@ fn requests(alloc: Global, below: &Refusing<Global>, is_held: bool) -> Result<St
     }
 }
 
-/// Whether a list has the bytes that are appended to it, as often as this, and the first of them
-/// once it is shortened.
+/// Returns whether a list has the bytes that are appended to it, as often as this, and the first of
+/// them once it is shortened.
 pub fn lengthened(
     alloc: Global,
     below: &Refusing<Global>,
@@ -43,7 +43,7 @@ pub fn lengthened(
     }
 }
 
-/// Whether it passes a refusal on, and gives back at its end the blocks that it keeps.
+/// Returns whether it passes a refusal on, and gives back at its end the blocks that it keeps.
 pub fn is_right(alloc: Global) -> bool {
     is_passed_on(&Refusing::new(alloc)) && is_given_back(alloc)
 }
@@ -92,7 +92,7 @@ fn push_block<A: Allocator + Copy>(alloc: A, held: &mut Vec<Box<u64, A>, A>, num
     }
 }
 
-// Whether these are the numbers from 0 on.
+// Returns whether these are the numbers from 0 on.
 fn are_numbers<A: Allocator>(held: &[Box<u64, A>]) -> bool {
     let mut expected = 0u64;
     let mut is_right = true;
@@ -129,14 +129,14 @@ fn is_repeated(bytes: &[u8]) -> bool {
     is_right
 }
 
-// Whether a list has these bytes if it is shortened to this length.
+// Returns whether a list has these bytes if it is shortened to this length.
 fn is_kept<A: Allocator>(bytes: &mut Vec<u8, A>, len: usize) -> bool {
     bytes.truncate(len);
     bytes.shrink_to_fit();
     is_repeated(bytes) && bytes.len() == len
 }
 
-// The same for a list that grows to so many times 250 bytes; none if memory was refused.
+// Does the same for a list that grows to so many times 250 bytes; none if memory was refused.
 fn is_lengthened<A: Allocator>(alloc: A, times: &str) -> Option<bool> {
     let mut bytes = Vec::new(alloc);
     if !repeat(&mut bytes, times.parse::<u8>().unwrap_or(0)) {
@@ -145,7 +145,7 @@ fn is_lengthened<A: Allocator>(alloc: A, times: &str) -> Option<bool> {
     Some(is_repeated(&bytes) && is_kept(&mut bytes, 3000) && is_kept(&mut bytes, 700))
 }
 
-// Whether a refusal of a new block is passed on, and a kept block asks for none.
+// Returns whether a refusal of a new block is passed on, and a kept block asks for none.
 fn is_passed_on(below: &Refusing<Global>) -> bool {
     let memory = Reusing::new(below);
     is_passed_on_by(&memory, below)
@@ -159,19 +159,19 @@ fn is_passed_on_by<A: Allocator + Copy>(alloc: A, below: &Refusing<Global>) -> b
     is_held && is_refused && hold(alloc, 8) && below.requests() == 0
 }
 
-// Whether a list and five blocks are held at once: one more than are kept of a size.
+// Returns whether a list and five blocks are held at once: one more than are kept of a size.
 fn is_list_held<A: Allocator + Copy>(alloc: A) -> bool {
     let mut bytes = Vec::new(alloc);
     hold_at_once(alloc, 5) && repeat(&mut bytes, 5) && is_repeated(&bytes)
 }
 
-// Whether a block that was asked for is kept as long as the memory is there.
+// Returns whether a block that was asked for is kept as long as the memory is there.
 fn is_kept_below(below: &LocalHeap) -> bool {
     let memory = Reusing::new(below);
     is_list_held(&memory) && below.used() > 0
 }
 
-// Whether it goes back at the end.
+// Returns whether it goes back at the end.
 fn is_given_back(alloc: Global) -> bool {
     match &LocalHeap::new(alloc, 1 << 14) {
         Ok(below) => is_kept_below(below) && below.used() == 0,

@@ -17,7 +17,7 @@ pub struct Row<'a> {
 }
 
 impl<'a> Row<'a> {
-    /// The row of a line; none of an empty line or a comment.
+    /// Returns the row of a line; none of an empty line or a comment.
     pub fn of(line: &'a str) -> Option<Row<'a>> {
         if line.is_empty() || line.starts_with('#') {
             return None;
@@ -35,7 +35,7 @@ impl<'a> Row<'a> {
     }
 }
 
-// The texts on either side of the first bar.
+// Returns the texts on either side of the first bar.
 fn cut(text: &str) -> (&str, &str) {
     text.split_once(" | ").unwrap_or((text, ""))
 }
@@ -62,7 +62,7 @@ impl Row<'_> {
         }
     }
 
-    // Whether as many requests may end in an error.
+    // Returns whether as many requests may end in an error.
     fn admits(&self, errors: usize) -> bool {
         match self.errors {
             "" => true,

@@ -2,7 +2,7 @@
 use esc_segments::{Segment, SegmentKind, Segments};
 use std::alloc::{AllocError, Global};
 
-/// The kind and the length of each segment, and whether it is unfinished.
+/// Lists the kind and the length of each segment, and says whether it is unfinished.
 pub fn listed(alloc: Global, stream: &[u8]) -> Result<String, AllocError> {
     let mut text = String::new(alloc);
     match list(&mut text, stream) {
@@ -21,12 +21,13 @@ fn list(text: &mut String, stream: &[u8]) -> Result<(), AllocError> {
     Ok(())
 }
 
-// The first segment, which outlives the iterator.
+// Returns the first segment, which outlives the iterator.
 fn first_of(stream: &[u8]) -> Option<Segment<'_>> {
     Segments::new(stream).next()
 }
 
-/// The kind of the first segment, how many there are of it, and how many bytes these have together.
+/// Returns the kind of the first segment, how many there are of it, and how many bytes these have
+/// together.
 pub fn counted(alloc: Global, stream: &[u8]) -> Result<String, AllocError> {
     match first_of(stream) {
         Some(first) => {

@@ -3,7 +3,7 @@ use esc_sixel::{Sixel, SixelBuilder, SixelData};
 use std::alloc::{AllocError, Allocator, Global};
 use std::fmt::Display;
 
-/// The Debug text of the data of an image, its text, and its size.
+/// Returns the Debug text of the data of an image, its text, and its size.
 pub fn drawn<A: Allocator>(alloc: Global, heap: A, data: &[u8]) -> Result<String, AllocError> {
     match image_of(heap, data) {
         Ok(sixel) => {
@@ -14,7 +14,7 @@ pub fn drawn<A: Allocator>(alloc: Global, heap: A, data: &[u8]) -> Result<String
     }
 }
 
-// The image of this data, which is taken at once.
+// Returns the image of this data, which is taken at once.
 fn image_of<A: Allocator>(heap: A, data: &[u8]) -> Result<Sixel<A>, AllocError> {
     let mut builder = SixelBuilder::new(heap, &[]);
     let taken = builder.push_run(data);
@@ -25,8 +25,8 @@ fn image_of<A: Allocator>(heap: A, data: &[u8]) -> Result<Sixel<A>, AllocError> 
     }
 }
 
-/// How many chunks of data the image of these bytes has, and whether its text has more bytes. The
-/// bytes are taken one by one.
+/// Returns how many chunks of data the image of these bytes has, and whether its text has more
+/// bytes. The bytes are taken one by one.
 pub fn count_of<A: Allocator>(alloc: Global, heap: A, data: &[u8]) -> Result<String, AllocError> {
     let mut builder = SixelBuilder::new(heap, &[]);
     let mut is_taken = true;
@@ -49,8 +49,8 @@ fn counted<A: Allocator>(alloc: Global, sixel: &Sixel<A>) -> Result<String, Allo
     }
 }
 
-/// Whether there is a text of an image, of this value of six pixels, or of three of it if `!` is
-/// before it, of the image with it last, and of the image with a new line after it.
+/// Returns whether there is a text of an image, of this value of six pixels, or of three of it if
+/// `!` is before it, of the image with it last, and of the image with a new line after it.
 pub fn written_with<A: Allocator>(
     alloc: Global,
     heap: A,

@@ -5,7 +5,8 @@ use control_functions::{C0, ControlFunction, EscapeFunction};
 use std::alloc::{AllocError, Global};
 use typed_functions::{CsiParam, Function, Modes, Rendition, Renditions, Unfit};
 
-/// The request of a sequence or a control: the Debug text and the text of its typed value; after
+/// Returns the request of a sequence or a control: the Debug text and the text of its typed value;
+/// after
 /// `Sgr:` those of each rendition, and for one that is not known `?` and its entries; after the
 /// operation on modes or tab stops the number of each, or `?`. Without a typed value the reason is
 /// there, and the name of its function if it has one.
@@ -49,7 +50,8 @@ fn read_params(params: &mut Vec<CsiParam>, text: &[u8]) -> Result<u8, AllocError
     Ok(*last)
 }
 
-// The parameter of this byte: a digit goes on with the number that is last, which it takes away.
+// Returns the parameter of this byte: a digit goes on with the number that is last, which it takes
+// away.
 fn param_of(params: &mut Vec<CsiParam>, byte: u8) -> CsiParam {
     if !byte.is_ascii_digit() {
         return CsiParam::P(byte);
@@ -65,7 +67,7 @@ fn param_of(params: &mut Vec<CsiParam>, byte: u8) -> CsiParam {
     }
 }
 
-// An escape sequence of these bytes after ESC: intermediates and the final byte.
+// Returns an escape sequence of these bytes after ESC: intermediates and the final byte.
 fn escape_sequence(alloc: Global, bytes: &[u8]) -> Result<String, AllocError> {
     let (last, intermediates) = bytes.split_last().unwrap_or((&0, b""));
     let name = escape_name(EscapeFunction::of_intermediates(intermediates, *last));
@@ -81,7 +83,7 @@ fn control(alloc: Global, code: u8) -> Result<String, AllocError> {
     shown(alloc, Function::of_c1(code), name)
 }
 
-// The code of a control: the only byte of these.
+// Returns the code of a control: the only byte of these.
 fn code_of(bytes: &[u8]) -> u8 {
     match bytes {
         [code] => *code,
@@ -89,7 +91,7 @@ fn code_of(bytes: &[u8]) -> u8 {
     }
 }
 
-// The name of a C0 control.
+// Returns the name of a C0 control.
 fn control_name(control: Option<C0>) -> &'static str {
     match control {
         Some(control) => control.name(),
@@ -97,7 +99,7 @@ fn control_name(control: Option<C0>) -> &'static str {
     }
 }
 
-// Its name; none if there is none.
+// Returns its name; none if there is none.
 fn escape_name(function: Option<EscapeFunction>) -> &'static str {
     match function {
         Some(function) => function.name(),
@@ -105,7 +107,7 @@ fn escape_name(function: Option<EscapeFunction>) -> &'static str {
     }
 }
 
-// The text of a value, of the function of this name.
+// Returns the text of a value, of the function of this name.
 fn shown(alloc: Global, function: Function<'_>, name: &str) -> Result<String, AllocError> {
     match function {
         Function::Cursor(cursor) => both(alloc, cursor),
@@ -160,7 +162,7 @@ fn add_entries(text: &mut String, entries: &[CsiParam]) -> Result<(), AllocError
     Ok(())
 }
 
-// The text of modes, or of several tab stops, after that of the operation on them.
+// Returns the text of modes, or of several tab stops, after that of the operation on them.
 fn changed(change: Result<String, AllocError>, modes: Modes<'_>) -> Result<String, AllocError> {
     let mut text = change?;
     match add_modes(&mut text, modes) {

@@ -11,7 +11,7 @@ use esc_values::scalar::{read_i32, read_i64, read_u8, read_u32, read_usize};
 use std::alloc::{AllocError, Global};
 use std::fmt::{Debug, Display};
 
-/// The result of a call that takes no memory.
+/// Returns the result of a call that takes no memory.
 ///
 /// - `dimension`, `click` and `prompt`: the Debug text and the text of the value that a word is
 ///   read as.
@@ -39,12 +39,12 @@ pub fn word(call: &str, alloc: Global, input: &[u8]) -> Result<String, AllocErro
     }
 }
 
-/// The Debug text and the text of a value.
+/// Returns the Debug text and the text of a value.
 pub fn both<T: Debug + Display + Drop>(alloc: Global, value: T) -> Result<String, AllocError> {
     format!(in alloc; "{value:?} {value}")
 }
 
-// The same for the value that was read, or the Debug text of the error.
+// Does the same for the value that was read, or the Debug text of the error.
 fn read<T: Debug + Display + Drop, E: Debug + Drop>(
     alloc: Global,
     read: Result<T, E>,
@@ -74,7 +74,7 @@ fn code(alloc: Global, text: &str) -> Result<String, AllocError> {
     }
 }
 
-// The pixels of `DIMENSION SIZE CELLS`.
+// Returns the pixels of `DIMENSION SIZE CELLS`.
 fn pixels(alloc: Global, text: &str) -> Result<String, AllocError> {
     let (dimension, sizes) = text.split_once(' ').unwrap_or((text, ""));
     let (size, cells) = sizes.split_once(' ').unwrap_or((sizes, ""));

@@ -32,7 +32,7 @@ shown_character is_byte c =
     else if is_plain c then encode_utf8 c
     else escaped_character c
 
--- characters, the first of which may stand for a byte
+-- are characters, the first of which may stand for a byte
 abbrev pub shown_from : Bool → List ℕ → List ℕ
 shown_from is_byte [] = []
 shown_from is_byte (c ∷ cs) = shown_character is_byte c ++ shown_from ((c == 0) && not is_byte) cs
@@ -40,6 +40,6 @@ shown_from is_byte (c ∷ cs) = shown_character is_byte c ++ shown_from ((c == 0
 abbrev pub word_shown : List ℕ → List ℕ
 word_shown w = shown_from false (chars w)
 
--- a text, each character of which shows as itself
+-- holds of a text, each character of which shows as itself
 abbrev pub IsShown : List ℕ → Type 0
 IsShown t = (cs : List ℕ) × (list_all is_shown cs ≡ true) × (encode_utf8_all cs ≡ t)

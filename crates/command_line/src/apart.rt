@@ -13,8 +13,8 @@ pub struct Apart<'a> {
     pub word: &'a str,
 }
 
-/// The fault of such a word, if there is one: that it is the name of no file, so that it was meant
-/// for the option.
+/// Returns the fault of such a word, if there is one: that it is the name of no file, so that it
+/// was meant for the option.
 pub fn wrong_apart<'a, F: Files>(files: &F, apart: Option<Apart<'a>>) -> Option<Wrong<'a>> {
     let Apart { option, word } = apart?;
     match metadata(files, word) {

@@ -11,8 +11,8 @@ pub const NO_TEXT: &str = "its name is not UTF-8: it can be read as standard inp
 // The longest argument that Linux hands to a program, with its end.
 const LONGEST: usize = 0x2_0001;
 
-/// The words of a program, which are its arguments after its name. A byte that is no part of UTF-8
-/// is U+0000 there, which no argument has, with the character of that number after it.
+/// Returns the words of a program, which are its arguments after its name. A byte that is no part
+/// of UTF-8 is U+0000 there, which no argument has, with the character of that number after it.
 ///
 /// The error says that memory was refused, or that a word has more than 128 KiB.
 pub fn program_words<E: Env, A: Allocator + Copy>(
@@ -32,12 +32,12 @@ pub fn program_words<E: Env, A: Allocator + Copy>(
     Ok(words)
 }
 
-/// Whether a word is text: all of its bytes are UTF-8.
+/// Returns whether a word is text: all of its bytes are UTF-8.
 pub fn is_text(word: &str) -> bool {
     !word.contains('\0')
 }
 
-// The word of these bytes.
+// Returns the word of these bytes.
 fn word_of<A: Allocator + Copy>(alloc: A, bytes: &[u8]) -> Result<String<A>, AllocError> {
     let mut word = String::new(alloc);
     for chunk in bytes.utf8_chunks() {

@@ -34,8 +34,8 @@ pub enum Ended {
     Closed,
 }
 
-/// The status after a stream that ended so, if it was this one before. An error if no further
-/// stream can be written.
+/// Returns the status after a stream that ended so, if it was this one before. An error if no
+/// further stream can be written.
 pub fn status_after(ended: Ended, status: u8) -> Result<u8, u8>
     ensures { result ≡ status_after ended status }
 {
@@ -47,7 +47,7 @@ pub fn status_after(ended: Ended, status: u8) -> Result<u8, u8>
     }
 }
 
-/// The status after a stream that ended so, if none follows.
+/// Returns the status after a stream that ended so, if none follows.
 pub fn last_status(ended: Ended) -> u8
     ensures { result ≡ last_status ended }
 {
@@ -57,8 +57,8 @@ pub fn last_status(ended: Ended) -> u8
     }
 }
 
-/// The status of a program whose words are wrong. A line on `faults` says which, and if it is not
-/// memory that was refused, another which option says the right ones.
+/// Returns the status of a program whose words are wrong. A line on `faults` says which, and if it
+/// is not memory that was refused, another which option says the right ones.
 pub fn refused<E: Write>(program: &str, wrong: Wrong<'_>, faults: &mut E) -> u8 {
     let _ = writeln!(faults, "{program}: {wrong}");
     if wrong.is_fault() {
@@ -68,9 +68,9 @@ pub fn refused<E: Write>(program: &str, wrong: Wrong<'_>, faults: &mut E) -> u8 
     USAGE_FAULT
 }
 
-/// The status of a program that only had to write a text to the output of this name, with this
-/// outcome. If it could not, a line on `faults` says why; but if nobody reads the output any more,
-/// none is written.
+/// Returns the status of a program that only had to write a text to the output of this name, with
+/// this outcome. If it could not, a line on `faults` says why; but if nobody reads the output any
+/// more, none is written.
 pub fn status_of_text<E: Write>(
     program: &str,
     output: &str,
@@ -83,8 +83,8 @@ pub fn status_of_text<E: Write>(
     }
 }
 
-/// The status of a program that cannot write the file of this name. A line on `faults` says the
-/// fault.
+/// Returns the status of a program that cannot write the file of this name. A line on `faults` says
+/// the fault.
 pub fn unwritable<D: Display + Drop, E: Write>(
     program: &str,
     name: &str,
@@ -95,7 +95,8 @@ pub fn unwritable<D: Display + Drop, E: Write>(
     FAULT
 }
 
-/// The end of a stream of this name that could not be read. A line on `faults` says the fault.
+/// Returns the end of a stream of this name that could not be read. A line on `faults` says the
+/// fault.
 pub fn unread<D: Display + Drop, E: Write>(
     program: &str,
     name: &str,
@@ -106,9 +107,9 @@ pub fn unread<D: Display + Drop, E: Write>(
     Ended::Unread
 }
 
-/// The end of a stream that cannot be written any further, since a write to the output of this name
-/// failed for this reason. A line on `faults` says so; but if nobody reads the output any more,
-/// none is written.
+/// Returns the end of a stream that cannot be written any further, since a write to the output of
+/// this name failed for this reason. A line on `faults` says so; but if nobody reads the output any
+/// more, none is written.
 pub fn unwritten<E: Write>(program: &str, output: &str, reason: Reason, faults: &mut E) -> Ended
     ensures { result ≡ Ended.Whole → ⊥ }
 {
@@ -122,15 +123,15 @@ pub fn unwritten<E: Write>(program: &str, output: &str, reason: Reason, faults: 
 /// The place of an early end of a stream.
 #[derive(Clone, Copy)]
 pub enum Place<'a> {
-    /// At its input, which has this name.
+    /// The stream ended early at its input, which has this name.
     Input(&'a str),
-    /// At the output of this name.
+    /// The stream ended early at the output of this name.
     Output(&'a str),
 }
 
-/// The end of a stream, with this outcome of a program's work on it. An error came at this place,
-/// and the last error of its reader and writer had this reason. A line on `faults` says the fault;
-/// but if nobody reads the output any more, none is written.
+/// Returns the end of a stream, with this outcome of a program's work on it. An error came at this
+/// place, and the last error of its reader and writer had this reason. A line on `faults` says the
+/// fault; but if nobody reads the output any more, none is written.
 pub fn ended_by<D: Display + Drop, E: Write>(
     program: &str,
     outcome: Result<(), D>,
@@ -146,7 +147,7 @@ pub fn ended_by<D: Display + Drop, E: Write>(
     }
 }
 
-// The end of a stream that this error ended early.
+// Returns the end of a stream that this error ended early.
 fn hindered<D: Display + Drop, E: Write>(
     program: &str,
     place: Place<'_>,

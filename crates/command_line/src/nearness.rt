@@ -2,7 +2,7 @@
 
 use crate::table::Known;
 
-// From so many edits on a word is not near.
+// A word is not near from so many edits on.
 const FAR: usize = 3;
 
 /// The right word that is nearest to a wrong one, of those that came so far.
@@ -32,8 +32,9 @@ impl Nearest {
     }
 }
 
-/// The word among these that is nearest to the wrong one, the first of several, if one is near: if
-/// at most two bytes of each, in one place, make the difference, or the wrong one is its beginning.
+/// Returns the word among these that is nearest to the wrong one, the first of several, if one is
+/// near: if at most two bytes of each, in one place, make the difference, or the wrong one is its
+/// beginning.
 pub fn nearest_word(words: &[&'static str], wrong: &str) -> Option<&'static str> {
     let mut nearest = NONE;
     for word in words {
@@ -42,7 +43,7 @@ pub fn nearest_word(words: &[&'static str], wrong: &str) -> Option<&'static str>
     nearest.word
 }
 
-/// The name of an option that is nearest to the wrong one, if one is near.
+/// Returns the name of an option that is nearest to the wrong one, if one is near.
 pub fn nearest_name(known: &[Known], wrong: &str) -> Option<&'static str> {
     let mut nearest = NONE;
     for option in known {
@@ -51,8 +52,8 @@ pub fn nearest_name(known: &[Known], wrong: &str) -> Option<&'static str> {
     nearest.word
 }
 
-// The number of bytes, in one place, that have to change to give the right word; one less than too
-// many if the wrong one is a beginning of it.
+// Returns the number of bytes, in one place, that have to change to give the right word; one less
+// than too many if the wrong one is a beginning of it.
 fn edits(right: &str, wrong: &str) -> usize {
     if !wrong.is_empty() && right.starts_with(wrong) {
         return FAR - 1;
@@ -65,7 +66,7 @@ fn edits(right: &str, wrong: &str) -> usize {
     right.len().max(wrong.len())
 }
 
-// The rest of two texts without the bytes that both begin with.
+// Returns the rest of two texts without the bytes that both begin with.
 fn without_start<'a>(mut one: &'a [u8], mut other: &'a [u8]) -> (&'a [u8], &'a [u8]) {
     while let (Some((a, more)), Some((b, others))) = (one.split_first(), other.split_first()) {
         if a != b {
@@ -77,7 +78,7 @@ fn without_start<'a>(mut one: &'a [u8], mut other: &'a [u8]) -> (&'a [u8], &'a [
     (one, other)
 }
 
-// The rest of two texts without the bytes that both end with.
+// Returns the rest of two texts without the bytes that both end with.
 fn without_end<'a>(mut one: &'a [u8], mut other: &'a [u8]) -> (&'a [u8], &'a [u8]) {
     while let (Some((a, more)), Some((b, others))) = (one.split_last(), other.split_last()) {
         if a != b {

@@ -17,7 +17,7 @@ pub struct ErrorCapture<T> {
 }
 
 impl<T> ErrorCapture<T> {
-    /// A reader or a writer around `inner`, none of whose calls has failed.
+    /// Returns a reader or a writer around `inner`, none of whose calls has failed.
     pub fn new(inner: T) -> ErrorCapture<T> {
         ErrorCapture {
             inner,
@@ -25,12 +25,12 @@ impl<T> ErrorCapture<T> {
         }
     }
 
-    /// The reason of the last error.
+    /// Returns the reason of the last error.
     pub fn reason(&self) -> Option<Reason> {
         self.reason
     }
 
-    /// The inner reader or writer.
+    /// Returns the inner reader or writer.
     pub fn into_inner(self) -> T {
         let ErrorCapture { inner, reason: _ } = self;
         inner
@@ -73,7 +73,7 @@ impl<W: Write> Write for ErrorCapture<W> {
     }
 }
 
-// One read, made again if a signal interrupted it.
+// Makes one read, and makes it again if a signal interrupted it.
 fn uninterrupted_read<R: Read>(reader: &mut R, buf: &mut [u8]) -> io::Result<usize>
     ensures bound { ReadsAtMost result buf.new }
     ensures bytes { ReadConsumes (R.remaining reader.old) (R.remaining reader.new) result buf.new }
@@ -92,7 +92,7 @@ fn uninterrupted_read<R: Read>(reader: &mut R, buf: &mut [u8]) -> io::Result<usi
     Err(io::Error::from(ErrorKind::TimedOut))
 }
 
-// One write, made again if a signal interrupted it.
+// Makes one write, and makes it again if a signal interrupted it.
 fn uninterrupted_write<W: Write>(writer: &mut W, buf: &[u8]) -> io::Result<usize>
     ensures bound { WritesAtMost result buf.now }
     ensures bytes { WriteAppends (W.contents writer.old) (W.contents writer.new) result buf.now }

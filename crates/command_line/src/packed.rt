@@ -26,7 +26,7 @@ pub enum Packed {
 }
 
 impl Packed {
-    // The form of a file that begins with these bytes, if it is compressed.
+    // Returns the form of a file that begins with these bytes, if it is compressed.
     fn of(bytes: &[u8]) -> Option<Packed>
         ensures { result ≡ packed_by bytes.now }
     {
@@ -45,7 +45,7 @@ impl Packed {
         None
     }
 
-    // The program that makes it, and the one that writes its content.
+    // Returns the program that makes it, and the one that writes its content.
     fn programs(self) -> (&'static str, &'static str) {
         match self {
             Packed::Gzip => ("gzip", "zcat"),
@@ -76,7 +76,8 @@ impl<'a> Display for PackedFile<'a> {
     }
 }
 
-/// The form of a regular file that is compressed, by its first bytes. Its position stays as it is.
+/// Returns the form of a regular file that is compressed, by its first bytes. Its position stays as
+/// it is.
 pub fn packed_in<F: OpenFile + FileExt>(file: &F) -> Option<Packed> {
     match file.metadata() {
         Ok(known) => packed_of(file, &known),
@@ -84,7 +85,7 @@ pub fn packed_in<F: OpenFile + FileExt>(file: &F) -> Option<Packed> {
     }
 }
 
-// The same for a file of which this is known. One of no length, as in /proc, may be another each
+// Does the same for a file with this metadata. One of no length, as in /proc, may be another each
 // time that it is read.
 fn packed_of<F: FileExt>(file: &F, known: &Metadata) -> Option<Packed> {
     if !known.is_file() || known.len() == 0 {

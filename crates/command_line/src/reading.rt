@@ -1,4 +1,4 @@
-//! From a program's words to its options and its files.
+//! This module reads a program's options and files from its words.
 ghost use Rattle.std.specs.Prelude.{◌≡◌, ◌≤◌, ◌++◌, ◌∷◌, ℕ, List, [], IfErr, IfOk, MatchResult, drop, false, if◌then◌else◌, length, map, string_bytes, true, ◌<◌};
 ghost use denote.Ref.{Bor};
 ghost use Rattle.std.specs.List.{list_all, list_any};
@@ -38,7 +38,7 @@ pub struct Given<'a> {
     pub next: &'a str,
 }
 
-/// The options and files that these words, a program's arguments, name, by the table of its
+/// Returns the options and files that these words, a program's arguments, name, by the table of its
 /// options; or the first word that is wrong.
 ///
 /// A word that begins with `-` is an option, but for `-` itself, which is a file, and `--`, after
@@ -145,7 +145,8 @@ fn add_files<'a, A: Allocator + Copy>(
     Ok(())
 }
 
-// The option that a word names, with the words after it that it takes, and the words after these.
+// Returns the option that a word names, with the words after it that it takes, and the words after
+// these.
 fn option_of<'a>(
     known: &[Known],
     word: &'a str,
@@ -172,7 +173,7 @@ fn option_of<'a>(
     }
 }
 
-// An option with the words after it that it takes, and the words after these.
+// Returns an option with the words after it that it takes, and the words after these.
 fn given_before<'a>(
     option: Known,
     after: &'a [String],
@@ -198,7 +199,7 @@ fn given_before<'a>(
     }
 }
 
-// An option with this value.
+// Returns an option with this value.
 fn given_with<'a>(option: Known, value: &'a str) -> Result<Given<'a>, Wrong<'a>>
     ensures given { IfOk result (λ g. said_option g ≡ said_by option value.now) }
     ensures right { Decides (is_value option.takes value.now) result }
@@ -226,7 +227,7 @@ fn given_with<'a>(option: Known, value: &'a str) -> Result<Given<'a>, Wrong<'a>>
     }
 }
 
-// An option of this name with some of these words, which are called so.
+// Returns an option of this name with some of these words, which are called so.
 fn given_some<'a>(
     name: &'static str,
     called: &'static str,
@@ -252,8 +253,8 @@ fn given_some<'a>(
     }
 }
 
-// The bits of the words that a text has with `,` between them; or the first that is not one of the
-// list.
+// Returns the bits of the words that a text has with `,` between them; or the first that is not one
+// of the list.
 fn bits_of<'a>(words: &[&'static str], text: &'a str) -> Result<u64, &'a str>
     ensures { MatchResult result
         (λ bits. (list_all (is_among words.now) (parts text.now) ≡ true)
@@ -275,14 +276,14 @@ fn bits_of<'a>(words: &[&'static str], text: &'a str) -> Result<u64, &'a str>
     }
 }
 
-// The bit of the word at this place: none past the 64th.
+// Returns the bit of the word at this place: none past the 64th.
 fn bit(place: usize) -> u64
     ensures { result ≡ bit (Some place) }
 {
     if place < 64 { 1 << place } else { 0 }
 }
 
-// The place of a word in the list, from 0: that of the first that it is.
+// Returns the place of a word in the list, from 0: that of the first that it is.
 fn place_in(words: &[&'static str], text: &str) -> Option<usize>
     ensures { result ≡ place_in words.now text.now }
 {
@@ -304,7 +305,7 @@ pub fn bits_are_words()
         ≡ list_any (λ part. is_place i (place_in words part)) given }
 {}
 
-// The option, with a word or a size.
+// Returns the option, with a word or a size.
 fn taken<'a>(option: Known, word: &'a str, size: usize) -> Given<'a>
     ensures { said_option result ≡ (option.name.now, word.now, size, 0) }
 {
@@ -317,7 +318,7 @@ fn taken<'a>(option: Known, word: &'a str, size: usize) -> Given<'a>
     }
 }
 
-// The option without the value that it may take, before these words.
+// Returns the option without the value that it may take, before these words.
 fn followed<'a>(option: Known, after: &'a [String]) -> Given<'a>
     ensures { said_option result ≡ (option.name.now, [], 0, 0) }
 {
@@ -328,7 +329,7 @@ fn followed<'a>(option: Known, after: &'a [String]) -> Given<'a>
     given
 }
 
-// Whether it is one of these words, or there are none.
+// Returns whether it is one of these words, or there are none.
 fn is_one_of(words: &[&'static str], value: &str) -> bool
     ensures { result ≡ is_one_of words.now value.now }
 {

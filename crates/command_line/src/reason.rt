@@ -51,7 +51,7 @@ pub struct Reason {
 }
 
 impl Reason {
-    /// The reason that this error gives.
+    /// Returns the reason that this error gives.
     pub fn of(error: &io::Error) -> Reason {
         Reason {
             number: error.raw_os_error(),
@@ -59,7 +59,7 @@ impl Reason {
         }
     }
 
-    /// Whether it is that nobody reads the output any more.
+    /// Returns whether it is that nobody reads the output any more.
     pub fn is_closed(self) -> bool {
         self.kind == ErrorKind::BrokenPipe
     }
@@ -82,7 +82,7 @@ fn write_number<W: fmt::Write>(number: i32, f: &mut fmt::Formatter<W>) -> fmt::R
     }
 }
 
-// The words of the system's error of this number, if it is in the table.
+// Returns the words of the system's error of this number, if it is in the table.
 fn words_of(number: i32) -> Option<&'static str> {
     for (known, words) in &WORDS {
         if *known == number {

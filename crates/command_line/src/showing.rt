@@ -73,7 +73,7 @@ fn write_byte<W: fmt::Write>(byte: u32, f: &mut fmt::Formatter<W>) -> fmt::Resul
     write!(f, "\\x{high}{low}")
 }
 
-// The digit of a number below 16.
+// Returns the digit of a number below 16.
 fn digit(number: u32) -> char
     requires { number < 16 }
     ensures { result ≡ digit_glyph false number }

@@ -13,8 +13,8 @@ const UNITS: [(&str, usize); 6] = [
     ("G", 0x4000_0000),
 ];
 
-/// The size that a text names: a number in decimal, and no unit, or `K`, `M` or `G`, with or
-/// without `iB` after it, for 2^10, 2^20 or 2^30 bytes. None if it is another text, or the size
+/// Returns the size that a text names: a number in decimal, and no unit, or `K`, `M` or `G`, with
+/// or without `iB` after it, for 2^10, 2^20 or 2^30 bytes. None if it is another text, or the size
 /// does not fit a `usize`.
 pub fn size_of(text: &str) -> Option<usize>
     ensures { MatchOption result (is_size text.now ≡ false)
@@ -27,7 +27,7 @@ pub fn size_of(text: &str) -> Option<usize>
     }
 }
 
-// A text without the first of these units that it ends with, and the unit's factor.
+// Returns a text without the first of these units that it ends with, and the unit's factor.
 fn without_unit<'a>(units: &[(&str, usize)], text: &'a str) -> (&'a str, usize)
     ensures { (result.0.now, result.1)
         ≡ without_unit (map (λ u. (u.0.now, u.1)) units.now) text.now }
@@ -40,7 +40,7 @@ fn without_unit<'a>(units: &[(&str, usize)], text: &'a str) -> (&'a str, usize)
     (text, 1)
 }
 
-// The text before this unit, if a text ends with it.
+// Returns the text before this unit, if a text ends with it.
 fn cut<'a>(unit: &str, text: &'a str) -> Option<&'a str>
     ensures { option_map (λ t. t.now) result ≡ cut unit.now text.now }
 {

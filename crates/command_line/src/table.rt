@@ -29,7 +29,7 @@ impl Known {
         takes: Takes::Nothing,
     };
 
-    /// Which version of the program it is.
+    /// Says which version of the program it is.
     pub const VERSION: Known = Known {
         name: "--version",
         letter: "-V",
@@ -54,7 +54,7 @@ pub enum Takes {
     MaybeSome(&'static str, &'static [&'static str]),
 }
 
-// The option of this name or letter.
+// Returns the option of this name or letter.
 pub fn option_named(known: &[Known], name: &str) -> Option<Known>
     ensures { result ≡ option_named known.now name.now }
 {
@@ -66,8 +66,8 @@ pub fn option_named(known: &[Known], name: &str) -> Option<Known>
     None
 }
 
-// The first option with a value joined to its letter in this word, which has this name before `=`,
-// and the value.
+// Returns the first option with a value joined to its letter in this word, which has this name
+// before `=`, and the value.
 pub fn option_joined<'a>(known: &[Known], name: &str, word: &'a str) -> Option<(Known, &'a str)>
     ensures { option_map (λ x. (x.0, x.1.now)) result ≡ option_joined known.now name.now word.now }
 {
@@ -79,7 +79,8 @@ pub fn option_joined<'a>(known: &[Known], name: &str, word: &'a str) -> Option<(
     None
 }
 
-// The value that is joined to the option's letter in this word, which has this name before `=`.
+// Returns the value that is joined to the option's letter in this word, which has this name before
+// `=`.
 fn joined<'a>(option: &Known, name: &str, word: &'a str) -> Option<&'a str>
     ensures { option_map (λ v. v.now) result ≡ joined option.now name.now word.now }
 {
@@ -89,7 +90,7 @@ fn joined<'a>(option: &Known, name: &str, word: &'a str) -> Option<&'a str>
     word.strip_prefix(option.letter)
 }
 
-// Whether an option takes something, or may take it.
+// Returns whether an option takes something, or may take it.
 fn may_take(takes: Takes) -> bool
     ensures { result ≡ may_take takes }
 {
@@ -100,7 +101,7 @@ fn may_take(takes: Takes) -> bool
     }
 }
 
-// Whether it is the option's name without its first `-`.
+// Returns whether it is the option's name without its first `-`.
 fn lacks_dash(option: &Known, name: &str) -> bool
     ensures { result ≡ lacks_dash option.now name.now }
 {

@@ -28,7 +28,7 @@ pub enum Wrong<'a> {
 pub const A_SIZE: &str = "size, as 64K";
 
 impl<'a> Wrong<'a> {
-    /// Whether no word is wrong, and memory was refused.
+    /// Returns whether no word is wrong, and memory was refused.
     pub fn is_fault(self) -> bool {
         match self {
             Wrong::Memory => true,

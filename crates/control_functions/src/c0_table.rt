@@ -69,8 +69,8 @@ static NAMES: [&str; 33] = controls!(names);
 static WORDS: [&str; 33] = controls!(words);
 
 impl C0 {
-    /// The control of this code: 00 to 1F (hexadecimal), or 7F, which is DEL. `None` for another
-    /// code.
+    /// Returns the control of this code: 00 to 1F (hexadecimal), or 7F, which is DEL. `None` for
+    /// another code.
     #[tactic(auto, using(crate::proofs::Controls::deleted, crate::proofs::Controls::no_control))]
     #[inline]
     pub fn of(code: u8) -> Option<C0>
@@ -86,7 +86,7 @@ impl C0 {
         None
     }
 
-    /// Its row of the table.
+    /// Returns its row of the table.
     #[inline]
     pub fn row(self) -> &'static Row<C0>
         ensures function { result.now.function ≡ self }
@@ -97,7 +97,7 @@ impl C0 {
         &ROWS[place(self)]
     }
 
-    /// Its name, as the standards abbreviate it.
+    /// Returns its name, as the standards abbreviate it.
     #[tactic(auto, unfolding(crate::specs::Controls::name_of))]
     pub fn name(self) -> &'static str
         ensures { result.now ≡ name_of self }
@@ -105,7 +105,7 @@ impl C0 {
         text_in(&NAMES, place(self))
     }
 
-    /// Its name in full.
+    /// Returns its name in full.
     #[tactic(auto, unfolding(crate::specs::Controls::words_of))]
     pub fn words(self) -> &'static str
         ensures { result.now ≡ words_of self }
@@ -113,7 +113,7 @@ impl C0 {
         text_in(&WORDS, place(self))
     }
 
-    /// Whether it changes the screen alone: those from BS to CR.
+    /// Returns whether it changes the screen alone: those from BS to CR.
     #[inline]
     pub fn changes_screen(self) -> bool
         ensures { result ≡ changes_screen self }
@@ -121,7 +121,7 @@ impl C0 {
         self.row().effect.is_screen()
     }
 
-    /// Whether a terminal answers it: ENQ alone.
+    /// Returns whether a terminal answers it: ENQ alone.
     #[inline]
     pub fn is_answered(self) -> bool
         ensures { result ≡ is_answered self }
@@ -129,7 +129,8 @@ impl C0 {
         self.row().effect.is_answered()
     }
 
-    /// Whether this is the code of a control that changes the screen alone: one from BS to CR.
+    /// Returns whether this is the code of a control that changes the screen alone: one from BS to
+    /// CR.
     #[inline]
     pub fn is_screen_code(code: u32) -> bool
         ensures { result ≡ is_screen (control_of code) }
@@ -138,7 +139,7 @@ impl C0 {
     }
 }
 
-// Whether it is one of these codes, by which they are known without a look at the table.
+// Returns whether it is one of these codes, by which they are known without a look at the table.
 #[inline]
 fn is_screen_code(code: u32) -> bool
     ensures { result ≡ is_from 0x08 0x0d code }
@@ -146,7 +147,7 @@ fn is_screen_code(code: u32) -> bool
     matches!(code, 0x08..=0x0d)
 }
 
-// The place of its row.
+// Returns the place of its row.
 #[tactic(auto, using(crate::proofs::Controls::below), unfolding(crate::specs::Controls::place))]
 #[inline(always)]
 fn place(control: C0) -> usize

@@ -297,8 +297,8 @@ static STARTS: [u16; 64] = starts![ControlFunction;
 ];
 
 impl ControlFunction {
-    /// The function of a control sequence. `None` if it has no name, and if parameters were left
-    /// out, since an intermediate may be among them.
+    /// Returns the function of a control sequence. `None` if it has no name, and if parameters were
+    /// left out, since an intermediate may be among them.
     pub fn of<A: Allocator>(csi: &CSI<A>) -> Option<ControlFunction>
         ensures { result ≡ function_of_csi (csi_value csi.now) }
     {
@@ -314,8 +314,8 @@ impl ControlFunction {
         }
     }
 
-    /// The function of a control sequence with all of these parameters and this final byte, if it
-    /// has a name.
+    /// Returns the function of a control sequence with all of these parameters and this final byte,
+    /// if it has a name.
     #[tactic(auto, using(crate::proofs::Functions::no_function_with))]
     #[inline]
     pub fn of_csi_params(csi_params: &[CsiParam], last: u8) -> Option<ControlFunction>
@@ -327,8 +327,8 @@ impl ControlFunction {
         }
     }
 
-    /// The function of a control sequence with this private prefix, this intermediate and this
-    /// final byte, and with no parameters, if it has a name.
+    /// Returns the function of a control sequence with this private prefix, this intermediate and
+    /// this final byte, and with no parameters, if it has a name.
     pub fn of_bytes(
         private_prefix: Option<u8>,
         intermediate: Option<u8>,
@@ -341,8 +341,8 @@ impl ControlFunction {
         with_key(marks_of(private_prefix, intermediate) * 0x100 + last as u32)
     }
 
-    /// The function of a control sequence with this private prefix, this intermediate, so many
-    /// parameters and separators between them, and this final byte, if it has a name.
+    /// Returns the function of a control sequence with this private prefix, this intermediate, so
+    /// many parameters and separators between them, and this final byte, if it has a name.
     pub fn of_parts(
         private_prefix: Option<u8>,
         intermediate: Option<u8>,
@@ -355,7 +355,7 @@ impl ControlFunction {
         with_key(key_with(marks_of(private_prefix, intermediate), count, last))
     }
 
-    /// Its row of the table.
+    /// Returns its row of the table.
     #[inline]
     pub fn row(self) -> &'static Row<ControlFunction>
         ensures function { result.now.function ≡ self }
@@ -366,7 +366,7 @@ impl ControlFunction {
         &ROWS[place(self)]
     }
 
-    /// Its name, as the standards abbreviate it.
+    /// Returns its name, as the standards abbreviate it.
     #[tactic(auto, unfolding(crate::specs::Functions::name_of))]
     pub fn name(self) -> &'static str
         ensures { result.now ≡ name_of self }
@@ -374,7 +374,7 @@ impl ControlFunction {
         text_in(&NAMES, place(self))
     }
 
-    /// Its description, in words.
+    /// Returns its description, in words.
     #[tactic(auto, unfolding(crate::specs::Functions::words_of))]
     pub fn words(self) -> &'static str
         ensures { result.now ≡ words_of self }
@@ -382,7 +382,7 @@ impl ControlFunction {
         text_in(&WORDS, place(self))
     }
 
-    /// Whether it changes the screen alone, with whatever parameters.
+    /// Returns whether it changes the screen alone, with whatever parameters.
     #[inline]
     pub fn changes_screen(self) -> bool
         ensures { result ≡ changes_screen self }
@@ -390,7 +390,7 @@ impl ControlFunction {
         self.row().effect.is_screen()
     }
 
-    /// Whether a terminal answers it, with some of its parameters or with all.
+    /// Returns whether a terminal answers it, with some of its parameters or with all.
     #[inline]
     pub fn is_answered(self) -> bool
         ensures { result ≡ is_answered self }
@@ -399,7 +399,7 @@ impl ControlFunction {
     }
 }
 
-// The place of its row.
+// Returns the place of its row.
 #[tactic(auto, using(crate::proofs::Functions::below), unfolding(crate::specs::Functions::place))]
 #[inline(always)]
 fn place(function: ControlFunction) -> usize
@@ -409,7 +409,7 @@ fn place(function: ControlFunction) -> usize
     function as usize
 }
 
-// The function that has this key.
+// Returns the function that has this key.
 #[tactic(auto, using(crate::proofs::Functions::rise), unfolding(crate::specs::Functions::function_of, crate::specs::Functions::rows_of))]
 #[inline]
 fn with_key(key: u32) -> Option<ControlFunction>

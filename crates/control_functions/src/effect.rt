@@ -17,7 +17,7 @@ pub enum Effect {
 }
 
 impl Effect {
-    /// Whether it is `Screen`.
+    /// Returns whether it is `Screen`.
     #[inline]
     pub fn is_screen(self) -> bool
         ensures { result ≡ is_screen_effect self }
@@ -28,7 +28,7 @@ impl Effect {
         }
     }
 
-    /// Whether it is `Answered`.
+    /// Returns whether it is `Answered`.
     #[inline]
     pub fn is_answered(self) -> bool
         ensures { result ≡ is_answered_effect self }

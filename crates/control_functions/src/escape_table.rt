@@ -138,7 +138,7 @@ static STARTS: [u16; 96] = starts![EscapeFunction;
 ];
 
 impl EscapeFunction {
-    /// The function of an escape sequence, if it has a name.
+    /// Returns the function of an escape sequence, if it has a name.
     pub fn of(esc: Esc) -> Option<EscapeFunction>
         ensures { result ≡ escape_of_name esc }
     {
@@ -153,8 +153,8 @@ impl EscapeFunction {
         }
     }
 
-    /// The function of an escape sequence with this intermediate, if there is one, and this final
-    /// byte, if it has a name.
+    /// Returns the function of an escape sequence with this intermediate, if there is one, and this
+    /// final byte, if it has a name.
     pub fn of_bytes(intermediate: Option<u8>, last: u8) -> Option<EscapeFunction>
         ensures { result ≡ function_of (sequence_key intermediate last) }
     {
@@ -170,10 +170,11 @@ impl EscapeFunction {
         }
     }
 
-    /// The function of an escape sequence with all of these intermediates and this final byte, if
-    /// it has a name (ECMA-35, 14.3.2 and 15.4.2). If there are two intermediates, both count, as
-    /// in `ESC $ ) C`, which designates a set of several bytes as G1, and `ESC ( % 6`, which
-    /// designates one of the sets of 94 characters as G0. An [`Esc`] keeps no second intermediate.
+    /// Returns the function of an escape sequence with all of these intermediates and this final
+    /// byte, if it has a name (ECMA-35, 14.3.2 and 15.4.2). If there are two intermediates, both
+    /// count, as in `ESC $ ) C`, which designates a set of several bytes as G1, and `ESC ( % 6`,
+    /// which designates one of the sets of 94 characters as G0. An [`Esc`] keeps no second
+    /// intermediate.
     pub fn of_intermediates(intermediates: &[u8], last: u8) -> Option<EscapeFunction>
         ensures { result ≡ function_of (intermediates_key intermediates.now last) }
     {
@@ -186,8 +187,8 @@ impl EscapeFunction {
         }
     }
 
-    /// The function of a C1 control, 80 to 9F (hexadecimal): that of ESC and the byte 40 less
-    /// (ECMA-48, 5.3). `None` for another code.
+    /// Returns the function of a C1 control, 80 to 9F (hexadecimal): that of ESC and the byte 40
+    /// less (ECMA-48, 5.3). `None` for another code.
     pub fn of_c1(code: u8) -> Option<EscapeFunction>
         ensures { result ≡ named_c1 code }
     {
@@ -200,7 +201,7 @@ impl EscapeFunction {
         with_key(0x100 + (code - 0x40) as u32)
     }
 
-    /// Its row of the table.
+    /// Returns its row of the table.
     #[inline]
     pub fn row(self) -> &'static Row<EscapeFunction>
         ensures function { result.now.function ≡ self }
@@ -211,7 +212,7 @@ impl EscapeFunction {
         &ROWS[place(self)]
     }
 
-    /// Its name, as the standards abbreviate it.
+    /// Returns its name, as the standards abbreviate it.
     #[tactic(auto, unfolding(crate::specs::Escapes::name_of))]
     pub fn name(self) -> &'static str
         ensures { result.now ≡ name_of self }
@@ -219,7 +220,7 @@ impl EscapeFunction {
         text_in(&NAMES, place(self))
     }
 
-    /// Its description, in words.
+    /// Returns its description, in words.
     #[tactic(auto, unfolding(crate::specs::Escapes::words_of))]
     pub fn words(self) -> &'static str
         ensures { result.now ≡ words_of self }
@@ -227,7 +228,7 @@ impl EscapeFunction {
         text_in(&WORDS, place(self))
     }
 
-    /// Whether it changes the screen alone.
+    /// Returns whether it changes the screen alone.
     #[inline]
     pub fn changes_screen(self) -> bool
         ensures { result ≡ changes_screen self }
@@ -235,7 +236,7 @@ impl EscapeFunction {
         self.row().effect.is_screen()
     }
 
-    /// Whether a terminal answers it.
+    /// Returns whether a terminal answers it.
     #[inline]
     pub fn is_answered(self) -> bool
         ensures { result ≡ is_answered self }
@@ -244,7 +245,7 @@ impl EscapeFunction {
     }
 }
 
-// The place of its row.
+// Returns the place of its row.
 #[tactic(auto, using(crate::proofs::Escapes::below), unfolding(crate::specs::Escapes::place))]
 #[inline(always)]
 fn place(function: EscapeFunction) -> usize
@@ -254,14 +255,14 @@ fn place(function: EscapeFunction) -> usize
     function as usize
 }
 
-// Whether the intermediate designates a set, which the final byte names.
+// Returns whether the intermediate designates a set, which the final byte names.
 fn designates(byte: u8) -> bool
     ensures { result ≡ designates byte }
 {
     matches!(byte, b'!' | b'"' | b'$' | b'&' | b'('..=b'+' | b'-'..=b'/')
 }
 
-// The key of two intermediates.
+// Returns the key of two intermediates.
 fn two_key(first: u8, second: u8) -> u32
     ensures { result ≡ two_key first second }
 {
@@ -274,7 +275,7 @@ fn two_key(first: u8, second: u8) -> u32
     }
 }
 
-// The function that has this key.
+// Returns the function that has this key.
 #[tactic(auto, using(crate::proofs::Escapes::rise), unfolding(crate::specs::Escapes::function_of, crate::specs::Escapes::rows_of))]
 #[inline]
 fn with_key(key: u32) -> Option<EscapeFunction>

@@ -4,7 +4,7 @@ ghost use Rattle.control_functions.specs.Rows.{Rise, first_grouped, first_keyed,
 
 use crate::keyed::Keyed;
 
-// The function of the first row that has this key.
+// Returns the function of the first row that has this key.
 #[inline]
 pub(crate) fn first_with<R: Keyed>(rows: &[R], key: u32) -> Option<R::Of>
     ensures { result ≡ first_keyed R.has_key R.is_of rows.now key }
@@ -17,8 +17,8 @@ pub(crate) fn first_with<R: Keyed>(rows: &[R], key: u32) -> Option<R::Of>
     None
 }
 
-// The same for rows in groups, one for each byte from `first` to `~`: the group is that of the last
-// byte of the key.
+// Does the same for rows in groups, one for each byte from `first` to `~`: the group is that of the
+// last byte of the key.
 #[tactic(auto, using(crate::proofs::ByKey::too_low, crate::proofs::ByKey::too_high, crate::proofs::ByKey::in_group))]
 #[inline]
 pub(crate) fn first_in_group<R: Keyed>(
@@ -41,8 +41,8 @@ pub(crate) fn first_in_group<R: Keyed>(
     first_with(part(rows, starts, (last - first) as usize), key)
 }
 
-// The rows of a group; `starts` has the place of the first, and then that of the next group's
-// first.
+// Returns the rows of a group; `starts` has the place of the first, and then that of the next
+// group's first.
 #[inline]
 fn part<'a, R>(rows: &'a [R], starts: &[u16], index: usize) -> &'a [R]
     requires index { index + 1 < length starts.now }
@@ -54,7 +54,7 @@ fn part<'a, R>(rows: &'a [R], starts: &[u16], index: usize) -> &'a [R]
     &rows[start..end]
 }
 
-// The text in this place of a table.
+// Returns the text in this place of a table.
 #[inline]
 pub(crate) fn text_in(texts: &[&'static str], index: usize) -> &'static str
     requires { index < length texts.now }

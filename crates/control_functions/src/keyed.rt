@@ -10,11 +10,11 @@ pub(crate) trait Keyed {
 
     ghost is_of: { Self → Self.Of };
 
-    /// Its key.
+    /// Returns its key.
     fn key(&self) -> u32
         ensures { result ≡ has_key self.now };
 
-    /// The function or mode of this row.
+    /// Returns the function or mode of this row.
     fn of(&self) -> Self::Of
         ensures { result ≡ is_of self.now };
 }

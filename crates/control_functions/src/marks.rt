@@ -5,8 +5,8 @@ ghost use Rattle.control_functions.specs.Rows.{packed};
 
 use esc_values::CsiParam;
 
-// The marks of these parameters, as digits to the base 256 after a 1. `None` if there are more than
-// two, which no function has.
+// Returns the marks of these parameters, as digits to the base 256 after a 1. `None` if there are
+// more than two, which no function has.
 #[tactic(auto, using(crate::proofs::Packed::no_mark, crate::proofs::Packed::one_mark, crate::proofs::Packed::third_mark))]
 #[inline]
 pub(crate) fn packed_marks(csi_params: &[CsiParam]) -> Option<u32>
@@ -26,7 +26,7 @@ pub(crate) fn packed_marks(csi_params: &[CsiParam]) -> Option<u32>
     Some(packed)
 }
 
-// The byte of the parameter, if it is no number and separates no two.
+// Returns the byte of the parameter, if it is no number and separates no two.
 #[inline]
 fn mark_of(entry: CsiParam) -> Option<u8>
     ensures { result ≡ mark_of entry }
@@ -37,7 +37,7 @@ fn mark_of(entry: CsiParam) -> Option<u8>
     }
 }
 
-// These marks, packed.
+// Returns these marks, packed.
 pub(crate) fn marks_of(private_prefix: Option<u8>, intermediate: Option<u8>) -> u32
     ensures same { result ≡ packed 1 (put_mark private_prefix (put_mark intermediate [])) }
     ensures few { result < 2 ^ 24 }
@@ -50,7 +50,7 @@ pub(crate) fn marks_of(private_prefix: Option<u8>, intermediate: Option<u8>) -> 
     }
 }
 
-// The key of a sequence of these marks, with so many parameters and this final byte.
+// Returns the key of a sequence of these marks, with so many parameters and this final byte.
 #[inline]
 pub(crate) fn key_with(marks: u32, count: usize, last: u8) -> u32
     requires { marks < 2 ^ 24 }
@@ -59,7 +59,7 @@ pub(crate) fn key_with(marks: u32, count: usize, last: u8) -> u32
     lead(marks, count, last) * 0x100 + last as u32
 }
 
-// The beginning of that key.
+// Returns the beginning of that key.
 #[inline]
 fn lead(marks: u32, count: usize, last: u8) -> u32
     requires { marks < 2 ^ 24 }
@@ -72,7 +72,7 @@ fn lead(marks: u32, count: usize, last: u8) -> u32
     if is_long(last, count) { 2 } else { 1 }
 }
 
-// Whether a sequence with so many parameters has the second function of its final byte.
+// Returns whether a sequence with so many parameters has the second function of its final byte.
 #[inline]
 fn is_long(last: u8, count: usize) -> bool
     ensures { result ≡ is_long last count }

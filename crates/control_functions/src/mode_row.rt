@@ -10,7 +10,7 @@ pub(crate) struct ModeRow<M> {
     pub(crate) mode: M,
     /// Its number.
     pub(crate) number: u32,
-    /// Whether setting and resetting it changes the screen alone.
+    /// Says whether setting and resetting it changes the screen alone.
     pub(crate) effect: Effect,
 }
 

@@ -52,7 +52,7 @@ static NAMES: [&str; 24] = modes!(names);
 static WORDS: [&str; 24] = modes!(words);
 
 impl Mode {
-    /// The mode of this number, if it has a name.
+    /// Returns the mode of this number, if it has a name.
     #[tactic(auto, unfolding(crate::specs::Modes::mode_of))]
     pub fn of_number(number: u32) -> Option<Mode>
         ensures { result ≡ mode_of number }
@@ -60,14 +60,14 @@ impl Mode {
         first_with(&ROWS, number)
     }
 
-    /// Its number.
+    /// Returns its number.
     pub fn number(self) -> u32
         ensures { result ≡ number_of self }
     {
         ROWS[place(self)].number
     }
 
-    /// Its name.
+    /// Returns its name.
     #[tactic(auto, unfolding(crate::specs::Modes::name_of))]
     pub fn name(self) -> &'static str
         ensures { result.now ≡ name_of self }
@@ -75,8 +75,8 @@ impl Mode {
         text_in(&NAMES, place(self))
     }
 
-    /// The setting that is set and reset, in words: a noun, which reads true after "set" and after
-    /// "reset".
+    /// Returns the setting that is set and reset, in words: a noun, which reads true after "set"
+    /// and after "reset".
     #[tactic(auto, unfolding(crate::specs::Modes::words_of))]
     pub fn words(self) -> &'static str
         ensures { result.now ≡ words_of self }
@@ -84,7 +84,7 @@ impl Mode {
         text_in(&WORDS, place(self))
     }
 
-    /// Whether setting and resetting it changes the screen alone, as it does of IRM only.
+    /// Returns whether setting and resetting it changes the screen alone, as it does of IRM only.
     #[inline]
     pub fn changes_screen(self) -> bool
         ensures { result ≡ changes_screen self }
@@ -92,7 +92,7 @@ impl Mode {
         ROWS[place(self)].effect.is_screen()
     }
 
-    /// Whether this is the number of a mode that changes the screen alone.
+    /// Returns whether this is the number of a mode that changes the screen alone.
     #[tactic(auto, using(crate::proofs::Modes::by_number))]
     #[inline]
     pub fn is_screen_number(number: u64) -> bool
@@ -102,7 +102,7 @@ impl Mode {
     }
 }
 
-// The place of its row.
+// Returns the place of its row.
 #[tactic(auto, using(crate::proofs::Modes::below), unfolding(crate::specs::Modes::place))]
 #[inline(always)]
 fn place(mode: Mode) -> usize

@@ -5,7 +5,7 @@ ghost use Rattle.control_functions.specs.Parameters.{default_of};
 /// The kind of a parameter of a control function.
 #[derive(Clone, Copy, Debug, PartialEq, Eq)]
 pub enum Parameter {
-    /// How often, from 1 on.
+    /// A count, from 1 on.
     Count,
     /// A line, from 1 on.
     Line,
@@ -40,9 +40,9 @@ pub enum Parameter {
 }
 
 impl Parameter {
-    /// The default of the parameter if it is left out: 1 for a count, a line, a column and a page,
-    /// 0 for a rendition, and for a choice or another number its own. `None` if the size of the
-    /// screen decides, and if no standard says it: there the parameter has to be given.
+    /// Returns the default of the parameter if it is left out: 1 for a count, a line, a column and
+    /// a page, 0 for a rendition, and for a choice or another number its own. `None` if the size of
+    /// the screen decides, and if no standard says it: there the parameter has to be given.
     pub fn default_value(self) -> Option<u16>
         ensures { result ≡ default_of self }
     {

@@ -1,4 +1,4 @@
-//! Which parameters a function has.
+//! This module says which parameters a function has.
 ghost use Rattle.std.specs.Prelude.{◌≡◌};
 ghost use Rattle.control_functions.specs.Parameters.{each_of, have_colons, last_repeats};
 
@@ -8,12 +8,12 @@ use crate::parameter::Parameter::{
     Mode, Number, Page, PrivateMode, Rendition, Selector,
 };
 
-/// Which parameters a control function has, in order.
+/// Says which parameters a control function has, in order.
 #[derive(Clone, Copy, Debug, PartialEq, Eq)]
 pub enum Parameters {
     /// It has none.
     Nothing,
-    /// How often.
+    /// A count.
     Count,
     /// A line.
     Line,
@@ -93,7 +93,7 @@ pub enum Parameters {
     Window,
     /// An attribute, the operation on it, and its values.
     Graphics,
-    /// Whether to track, where, and the first and the last line.
+    /// A flag to track, a place, and the first and the last line.
     Highlight,
     /// A button with its modifiers, a column and a line.
     Mouse,
@@ -103,7 +103,7 @@ pub enum Parameters {
     Extent,
     /// A key and its modifiers.
     Key,
-    /// A key, its modifiers with the event, and its text, each of which may have colons.
+    /// A key, its modifiers with the event, and its text; each may have colons.
     KeyEvent,
     /// Flags, and whether they are set, added or taken away.
     KeyboardFlags,
@@ -118,7 +118,7 @@ pub enum Parameters {
 }
 
 impl Parameters {
-    /// Each parameter, in order.
+    /// Returns each parameter, in order.
     pub fn each(self) -> &'static [Parameter]
         ensures { result.now ≡ each_of self }
     {
@@ -187,7 +187,7 @@ impl Parameters {
         }
     }
 
-    /// Whether the last may come any number of times.
+    /// Returns whether the last may come any number of times.
     pub fn last_repeats(self) -> bool
         ensures { result ≡ last_repeats self }
     {
@@ -205,7 +205,7 @@ impl Parameters {
         )
     }
 
-    /// Whether a parameter may have parts, with colons between them (ECMA-48, 5.4.2).
+    /// Returns whether a parameter may have parts, with colons between them (ECMA-48, 5.4.2).
     pub fn have_colons(self) -> bool
         ensures { result ≡ have_colons self }
     {

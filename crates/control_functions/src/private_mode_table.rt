@@ -170,7 +170,7 @@ static NAMES: [&str; 138] = modes!(names);
 static WORDS: [&str; 138] = modes!(words);
 
 impl PrivateMode {
-    /// The mode of this number, if it has a name.
+    /// Returns the mode of this number, if it has a name.
     #[tactic(auto, unfolding(crate::specs::PrivateModes::mode_of))]
     pub fn of_number(number: u32) -> Option<PrivateMode>
         ensures { result ≡ mode_of number }
@@ -178,14 +178,14 @@ impl PrivateMode {
         first_with(&ROWS, number)
     }
 
-    /// Its number, as it comes after `CSI ?`.
+    /// Returns its number, as it comes after `CSI ?`.
     pub fn number(self) -> u32
         ensures { result ≡ number_of self }
     {
         ROWS[place(self)].number
     }
 
-    /// Its name.
+    /// Returns its name.
     #[tactic(auto, unfolding(crate::specs::PrivateModes::name_of))]
     pub fn name(self) -> &'static str
         ensures { result.now ≡ name_of self }
@@ -193,8 +193,8 @@ impl PrivateMode {
         text_in(&NAMES, place(self))
     }
 
-    /// The setting that is set and reset, in words: a noun, which reads true after "set" and after
-    /// "reset".
+    /// Returns the setting that is set and reset, in words: a noun, which reads true after "set"
+    /// and after "reset".
     #[tactic(auto, unfolding(crate::specs::PrivateModes::words_of))]
     pub fn words(self) -> &'static str
         ensures { result.now ≡ words_of self }
@@ -202,7 +202,7 @@ impl PrivateMode {
         text_in(&WORDS, place(self))
     }
 
-    /// Whether setting and resetting it changes the screen alone.
+    /// Returns whether setting and resetting it changes the screen alone.
     #[inline]
     pub fn changes_screen(self) -> bool
         ensures { result ≡ changes_screen self }
@@ -210,7 +210,7 @@ impl PrivateMode {
         ROWS[place(self)].effect.is_screen()
     }
 
-    /// Whether this is the number of a mode that changes the screen alone.
+    /// Returns whether this is the number of a mode that changes the screen alone.
     #[tactic(auto, using(crate::proofs::PrivateModes::by_number))]
     #[inline]
     pub fn is_screen_number(number: u64) -> bool
@@ -220,7 +220,7 @@ impl PrivateMode {
     }
 }
 
-// Whether it is on the list of these numbers, by which they are known without a search.
+// Returns whether it is on the list of these numbers, by which they are known without a search.
 #[inline]
 fn is_listed(number: u64) -> bool
     ensures { result ≡ is_listed number }
@@ -231,7 +231,7 @@ fn is_listed(number: u64) -> bool
     )
 }
 
-// The place of its row.
+// Returns the place of its row.
 #[tactic(auto, using(crate::proofs::PrivateModes::below), unfolding(crate::specs::PrivateModes::place))]
 #[inline(always)]
 fn place(mode: PrivateMode) -> usize

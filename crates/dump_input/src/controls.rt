@@ -2,7 +2,7 @@
 
 use crate::sent::{CONTROL, Sent};
 
-/// The key that is sent as this control, but for ESC.
+/// Returns the key that is sent as this control, but for ESC.
 pub fn control_key(code: u8) -> Option<Sent> {
     match code {
         0x00 => Some(Sent::Key("Space", CONTROL)),

@@ -16,7 +16,7 @@ pub enum Found {
 }
 
 impl Found {
-    // The same after so many bytes more, with these modifiers.
+    // Does the same after so many bytes more, with these modifiers.
     fn after(self, count: usize, modifiers: u8) -> Found {
         match self {
             Found::Input(length, sent) => {
@@ -27,7 +27,7 @@ impl Found {
     }
 }
 
-/// The input that these bytes begin with; more may come, or not if they are the last.
+/// Returns the input that these bytes begin with; more may come, or not if they are the last.
 pub fn found_in(bytes: &[u8], is_last: bool) -> Found {
     match bytes {
         [] => Found::Other,
@@ -39,7 +39,7 @@ pub fn found_in(bytes: &[u8], is_last: bool) -> Found {
     }
 }
 
-/// The part that these bytes of a paste begin with: its end, or something else.
+/// Returns the part that these bytes of a paste begin with: its end, or something else.
 pub fn paste_end_in(bytes: &[u8], is_last: bool) -> Found {
     let end = b"\x1b[201~".as_slice();
     if bytes.starts_with(end) {
@@ -51,7 +51,7 @@ pub fn paste_end_in(bytes: &[u8], is_last: bool) -> Found {
     }
 }
 
-// The input of ESC and the bytes after it.
+// Returns the input of ESC and the bytes after it.
 fn escape_in(rest: &[u8], is_last: bool) -> Found {
     let escape = Sent::Key("Escape", 0);
     match rest {
@@ -77,7 +77,7 @@ fn escape_in(rest: &[u8], is_last: bool) -> Found {
     }
 }
 
-// The input of a sequence of ESC [ or ESC O, without its ESC.
+// Returns the input of a sequence of ESC [ or ESC O, without its ESC.
 fn sequence_in(rest: &[u8], is_last: bool) -> Found {
     match rest {
         [] if !is_last => Found::More,
@@ -87,7 +87,7 @@ fn sequence_in(rest: &[u8], is_last: bool) -> Found {
     }
 }
 
-// Whether a letter after ESC opens a string that a terminal sends.
+// Says whether a letter after ESC opens a string that a terminal sends.
 #[derive(Clone, Copy)]
 enum Opens {
     String,
@@ -95,7 +95,7 @@ enum Opens {
     More,
 }
 
-// Whether a letter after ESC opens a string, by the next bytes: a DCS has parameters or an
+// Returns whether a letter after ESC opens a string, by the next bytes: a DCS has parameters or an
 // intermediate, an OSC a number or the letter of a report of a title, and an APC the G of images.
 fn opens_string(letter: u8, after: &[u8], is_last: bool) -> Opens {
     if !matches!(letter, b'P' | b']' | b'_') {
@@ -112,7 +112,7 @@ fn opens_string(letter: u8, after: &[u8], is_last: bool) -> Opens {
     if opens { Opens::String } else { Opens::Nothing }
 }
 
-// The input of a character after ESC: a key with Alt.
+// Returns the input of a character after ESC: a key with Alt.
 fn alt_in(rest: &[u8], is_last: bool) -> Found {
     let Some(first) = rest.first() else {
         return Found::Other;
@@ -130,7 +130,7 @@ fn alt_in(rest: &[u8], is_last: bool) -> Found {
     }
 }
 
-// The character that some bytes begin with.
+// Returns the character that some bytes begin with.
 fn first_char(bytes: &[u8]) -> Option<char> {
     let chunk = bytes.utf8_chunks().next()?;
     chunk.valid().chars().next()

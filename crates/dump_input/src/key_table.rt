@@ -184,32 +184,32 @@ R F3, or the cursor in line 1 (a report),
 S F4
 Z Tab";
 
-/// The key of this number before `~`; nothing of any other.
+/// Returns the key of this number before `~`; nothing of any other.
 pub fn numbered_key(number: u64) -> &'static str {
     of_number(NUMBERED, number)
 }
 
-/// The key of this number of Sun's keyboards.
+/// Returns the key of this number of Sun's keyboards.
 pub fn sun_key(number: u64) -> &'static str {
     of_number(SUN, number)
 }
 
-/// The key of this letter after `ESC O`.
+/// Returns the key of this letter after `ESC O`.
 pub fn ss3_key(letter: u8) -> &'static str {
     of_letter(SS3, letter)
 }
 
-/// The key of this letter after `ESC [`.
+/// Returns the key of this letter after `ESC [`.
 pub fn plain_key(letter: u8) -> &'static str {
     of_letter(PLAIN, letter)
 }
 
-/// The key of this letter that has modifiers before it.
+/// Returns the key of this letter that has modifiers before it.
 pub fn modified_key(letter: u8) -> &'static str {
     of_letter(MODIFIED, letter)
 }
 
-// The key in the row of this number.
+// Returns the key in the row of this number.
 fn of_number(table: &'static str, number: u64) -> &'static str {
     for line in table.lines() {
         if let Some((key, words)) = line.split_once(' ') {
@@ -221,7 +221,7 @@ fn of_number(table: &'static str, number: u64) -> &'static str {
     ""
 }
 
-// The key in the row of this letter.
+// Returns the key in the row of this letter.
 fn of_letter(table: &'static str, letter: u8) -> &'static str {
     for line in table.lines() {
         if let Some((key, words)) = line.split_once(' ') {
@@ -233,7 +233,7 @@ fn of_letter(table: &'static str, letter: u8) -> &'static str {
     ""
 }
 
-// Whether a text is this number in decimal.
+// Returns whether a text is this number in decimal.
 fn is_number(text: &str, number: u64) -> bool {
     match text.parse::<u64>() {
         Ok(found) => found == number,

@@ -4,8 +4,8 @@ use crate::found::Found;
 use crate::sent::{Pointer, Sent};
 use crate::sequences::number_in;
 
-/// The report of X10 and of mode 1000, after `ESC [ M`: three bytes that are 32 more. They are
-/// counted with the `M`. Without them it is a key of cons25.
+/// Returns the report of X10 and of mode 1000, after `ESC [ M`: three bytes that are 32 more. They
+/// are counted with the `M`. Without them it is a key of cons25.
 pub fn bytes_report(bytes: &[u8], is_last: bool) -> Found {
     match bytes {
         [
@@ -20,7 +20,7 @@ pub fn bytes_report(bytes: &[u8], is_last: bool) -> Found {
     }
 }
 
-// The report of these bytes. It does not say which button is released.
+// Returns the report of these bytes. It does not say which button is released.
 fn pointer_of(bits: u8, column: u8, line: u8) -> Pointer {
     Pointer {
         bits: u64::from(bits.saturating_sub(32)),
@@ -30,7 +30,7 @@ fn pointer_of(bits: u8, column: u8, line: u8) -> Pointer {
     }
 }
 
-/// The report of mode 1006 or 1016: three numbers after `ESC [ <`.
+/// Returns the report of mode 1006 or 1016: three numbers after `ESC [ <`.
 pub fn sgr_report(numbers: &[u8], is_released: bool) -> Option<Sent> {
     let (bits, column, line) = three_in(numbers)?;
     Some(Sent::Mouse(Pointer {
@@ -41,7 +41,7 @@ pub fn sgr_report(numbers: &[u8], is_released: bool) -> Option<Sent> {
     }))
 }
 
-/// The report of mode 1015: three numbers, the first of which is 32 more.
+/// Returns the report of mode 1015: three numbers; the first is 32 more than its bits.
 pub fn numbers_report(numbers: &[u8]) -> Option<Sent> {
     match three_in(numbers) {
         Some((bits, column, line)) if bits >= 32 => Some(Sent::Mouse(Pointer {
@@ -54,7 +54,7 @@ pub fn numbers_report(numbers: &[u8]) -> Option<Sent> {
     }
 }
 
-// Three numbers with `;` between them.
+// Returns three numbers with `;` between them.
 fn three_in(text: &[u8]) -> Option<(u64, u64, u64)> {
     let (first, rest) = number_in(text)?;
     let (second, rest) = number_in(rest.strip_prefix(b";")?)?;

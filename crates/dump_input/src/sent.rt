@@ -17,7 +17,7 @@ pub const CONTROL: Modifiers = 4;
 pub struct Pointer {
     /// The bits, as xterm has them before it adds 32 ("Mouse Tracking").
     pub bits: u64,
-    /// Whether a button was released.
+    /// Says whether a button was released.
     pub is_released: bool,
     /// The column, from 1 on; a pixel, if mode 1016 is set.
     pub column: u64,
@@ -41,7 +41,7 @@ pub enum Sent {
 }
 
 impl Sent {
-    /// The same with more modifiers; input without modifiers stays.
+    /// Does the same with more modifiers; input without modifiers stays.
     pub fn with(self, more: Modifiers) -> Sent {
         match self {
             Sent::Key(name, modifiers) => Sent::Key(name, modifiers | more),

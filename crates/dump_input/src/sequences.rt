@@ -10,7 +10,7 @@ const MOST: usize = 64;
 
 const SHIFT: Modifiers = 1;
 
-// How many bytes come first that are parameters: digits, `:`, `;` and private prefixes.
+// Returns how many bytes come first that are parameters: digits, `:`, `;` and private prefixes.
 fn parameters_run(bytes: &[u8]) -> usize {
     for at in 0..bytes.len() {
         if !matches!(bytes[at], 0x30..=0x3f) {
@@ -20,7 +20,7 @@ fn parameters_run(bytes: &[u8]) -> usize {
     bytes.len()
 }
 
-/// The input of `ESC [` and the bytes after it. They are counted without it.
+/// Returns the input of `ESC [` and the bytes after it. They are counted without it.
 pub fn csi_in(bytes: &[u8], is_last: bool) -> Found {
     let (params, after) = bytes.split_at(parameters_run(bytes).min(bytes.len()));
     match after {
@@ -36,7 +36,7 @@ pub fn csi_in(bytes: &[u8], is_last: bool) -> Found {
     }
 }
 
-/// The input of `ESC O` and the bytes after it. They are counted without it.
+/// Returns the input of `ESC O` and the bytes after it. They are counted without it.
 pub fn ss3_in(bytes: &[u8], is_last: bool) -> Found {
     let (params, after) = bytes.split_at(parameters_run(bytes).min(bytes.len()));
     match after {
@@ -56,7 +56,7 @@ fn found_with(sent: Option<Sent>, length: usize) -> Found {
     }
 }
 
-// The function key of the Linux console of this letter.
+// Returns the function key of the Linux console of this letter.
 fn linux_key(letter: u8) -> &'static str {
     match letter {
         b'A' => "F1",
@@ -67,7 +67,7 @@ fn linux_key(letter: u8) -> &'static str {
     }
 }
 
-// The key of a sequence of SS3 without parameters.
+// Returns the key of a sequence of SS3 without parameters.
 fn ss3_of(last: u8) -> Option<Sent> {
     match ss3_key(last) {
         "" => None,
@@ -75,7 +75,7 @@ fn ss3_of(last: u8) -> Option<Sent> {
     }
 }
 
-// The input of a control sequence of these parameters and this final byte.
+// Returns the input of a control sequence of these parameters and this final byte.
 fn sequence_of(params: &[u8], last: u8) -> Option<Sent> {
     match (params, last) {
         ([], b'I') => Some(Sent::Focus(true)),
@@ -95,7 +95,7 @@ fn sequence_of(params: &[u8], last: u8) -> Option<Sent> {
     }
 }
 
-// The key of a control sequence without parameters.
+// Returns the key of a control sequence without parameters.
 fn plain_of(last: u8) -> Option<Sent> {
     match plain_key(last) {
         "" => None,
@@ -103,14 +103,14 @@ fn plain_of(last: u8) -> Option<Sent> {
     }
 }
 
-// The key of a number, with modifiers after it.
+// Returns the key of a number, with modifiers after it.
 fn numbered(params: &[u8]) -> Option<Sent> {
     let (number, rest) = number_in(params)?;
     let modifiers = modifiers_in(rest)?;
     key_of(numbered_key(number), modifiers)
 }
 
-// The key of a number, as rxvt sends it with modifiers.
+// Returns the key of a number, as rxvt sends it with modifiers.
 fn rxvt(params: &[u8], modifiers: Modifiers) -> Option<Sent> {
     match number_in(params)? {
         (number, []) => key_of(numbered_key(number), modifiers),
@@ -118,7 +118,7 @@ fn rxvt(params: &[u8], modifiers: Modifiers) -> Option<Sent> {
     }
 }
 
-// The key of a number of Sun's keyboards.
+// Returns the key of a number of Sun's keyboards.
 fn sun(params: &[u8]) -> Option<Sent> {
     match number_in(params)? {
         (number, []) => key_of(sun_key(number), 0),
@@ -126,7 +126,7 @@ fn sun(params: &[u8]) -> Option<Sent> {
     }
 }
 
-// The key of a letter, with modifiers: after `1;`, or alone, as some terminals send them.
+// Returns the key of a letter, with modifiers: after `1;`, or alone, as some terminals send them.
 fn modified(params: &[u8], last: u8) -> Option<Sent> {
     let modifiers = match params {
         [b'1', rest @ ..] if !rest.is_empty() => modifiers_in(rest)?,
@@ -138,7 +138,7 @@ fn modified(params: &[u8], last: u8) -> Option<Sent> {
     key_of(modified_key(last), modifiers)
 }
 
-// A key of this name, if it has one.
+// Returns a key of this name, if it has one.
 fn key_of(name: &'static str, modifiers: Modifiers) -> Option<Sent> {
     if name.is_empty() {
         None
@@ -147,7 +147,8 @@ fn key_of(name: &'static str, modifiers: Modifiers) -> Option<Sent> {
     }
 }
 
-// The modifiers after a `;`, or none of nothing. A text after a `:` is no key that is looked for.
+// Returns the modifiers after a `;`, or none of nothing. A text after a `:` is no key that is
+// looked for.
 fn modifiers_in(rest: &[u8]) -> Option<Modifiers> {
     match rest {
         [] => Some(0),
@@ -159,7 +160,7 @@ fn modifiers_in(rest: &[u8]) -> Option<Modifiers> {
     }
 }
 
-// The bits of modifiers that are counted from 1 on.
+// Returns the bits of modifiers that are counted from 1 on.
 fn bits_of(number: u64) -> Option<Modifiers> {
     match u8::try_from(number) {
         Ok(number @ 1..=16) => Some(number.saturating_sub(1)),
@@ -167,7 +168,7 @@ fn bits_of(number: u64) -> Option<Modifiers> {
     }
 }
 
-/// The number that a text begins with, of at most 9 digits, and the rest.
+/// Returns the number that a text begins with, of at most 9 digits, and the rest.
 pub fn number_in(text: &[u8]) -> Option<(u64, &[u8])> {
     let mut number: u64 = 0;
     let mut count: usize = 0;

@@ -84,7 +84,7 @@ fn add_pointer(pointer: Pointer, to: &mut Phrase) {
     to.add_digits(pointer.line);
 }
 
-// The words of a button.
+// Returns the words of a button.
 fn button_words(bits: u64) -> &'static str {
     for (button, words) in &BUTTONS {
         if *button == bits {

@@ -46,7 +46,7 @@ noncharacter
 private-use character
 mark";
 
-// How often the characters of a row came, and the first of them.
+// Says how often the characters of a row came, and the first of them.
 #[derive(Clone, Copy)]
 struct Count {
     row: usize,
@@ -54,7 +54,7 @@ struct Count {
     count: u64,
 }
 
-/// Which of these characters came, in how many rows of a table. It takes no memory while none
+/// Says which of these characters came, in how many rows of a table. It takes no memory while none
 /// comes.
 #[derive(Drop)]
 pub struct Hidden {
@@ -63,7 +63,7 @@ pub struct Hidden {
 }
 
 impl Hidden {
-    /// None.
+    /// Returns an empty list.
     pub fn new(alloc: Global) -> Hidden {
         Hidden {
             counts: Vec::new(alloc),
@@ -77,12 +77,12 @@ impl Hidden {
         self.is_refused = false;
     }
 
-    /// Whether memory was refused, and one is not counted.
+    /// Returns whether memory was refused, and one is not counted.
     pub fn is_refused(&self) -> bool {
         self.is_refused
     }
 
-    /// Whether none came, and none was refused.
+    /// Returns whether none came, and none was refused.
     pub fn is_empty(&self) -> bool {
         self.counts.is_empty() && !self.is_refused
     }
@@ -148,7 +148,7 @@ impl Hidden {
     }
 }
 
-// The row of a character.
+// Returns the row of a character.
 fn row_of(c: char) -> usize {
     match c as u32 {
         0xad => 0,

@@ -33,8 +33,8 @@ pub enum Member {
 }
 
 impl Member {
-    /// The text before its value: the end of the member before it or the begin of the object, its
-    /// name between quotes, and a colon.
+    /// Returns the text before its value: the end of the member before it or the begin of the
+    /// object, its name between quotes, and a colon.
     pub(crate) fn text(self) -> &'static str
         ensures { ∥ IsPage result.now ∥₁ }
     {

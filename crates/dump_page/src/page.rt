@@ -27,7 +27,7 @@ pub enum Color {
 }
 
 impl Page {
-    /// No lines. Takes no memory.
+    /// Returns no lines. Takes no memory.
     pub fn new(alloc: Global, is_colored: bool) -> Page {
         Page {
             words: Phrase::new(alloc),
@@ -35,7 +35,7 @@ impl Page {
         }
     }
 
-    /// The lines.
+    /// Returns the lines.
     pub fn as_bytes(&self) -> &[u8]
         ensures { ∥ IsPage result.now ∥₁ }
     {
@@ -49,17 +49,17 @@ impl Page {
         self.note(is_refused);
     }
 
-    /// A phrase without words.
+    /// Returns a phrase without words.
     pub fn phrase(&self) -> Phrase {
         self.words.empty()
     }
 
-    /// The words of the lines, to which more can be added.
+    /// Returns the words of the lines, to which more can be added.
     pub fn words(&mut self) -> &mut Phrase {
         &mut self.words
     }
 
-    /// Whether memory was refused, and something is left out.
+    /// Returns whether memory was refused, and something is left out.
     pub fn is_refused(&self) -> bool {
         self.words.is_refused()
     }
@@ -85,7 +85,7 @@ impl Page {
         self.words.add(spaces(missing % 32));
     }
 
-    /// Whether colours are asked for.
+    /// Returns whether colours are asked for.
     pub fn is_colored(&self) -> bool {
         self.is_colored
     }

@@ -28,7 +28,7 @@ pub struct Phrase {
     name: Name,
     hidden: Hidden,
     columns: usize,
-    // Where the name that was given last begins and ends.
+    // Says where the name that was given last begins and ends.
     begun: usize,
     named: usize,
     room: Room,
@@ -37,7 +37,7 @@ pub struct Phrase {
 }
 
 impl Phrase {
-    /// No words. Takes no memory.
+    /// Returns no words. Takes no memory.
     #[tactic(auto, using(crate::proofs::PagesMore::no_page))]
     pub fn new(alloc: Global) -> Phrase {
         Phrase {
@@ -91,25 +91,25 @@ impl Phrase {
         }
     }
 
-    /// The words.
+    /// Returns the words.
     pub fn as_str(&self) -> &str
         ensures { ∥ IsPage result.now ∥₁ }
     {
         self.text.as_str()
     }
 
-    /// The name that was given last; empty, if none was.
+    /// Returns the name that was given last; empty, if none was.
     pub fn name(&self) -> Name {
         self.name
     }
 
-    /// The same, as words have it.
+    /// Does the same, as words have it.
     pub fn name_bytes(&self) -> &[u8] {
         let bytes = self.text.as_bytes();
         bytes.get(self.begun..self.named).unwrap_or(b"")
     }
 
-    /// Whether memory was refused, and words are left out.
+    /// Returns whether memory was refused, and words are left out.
     pub fn is_refused(&self) -> bool {
         self.is_refused
     }
@@ -124,7 +124,7 @@ impl Phrase {
         self.begin_named(Name(kind, name, Key::Nothing), words);
     }
 
-    /// The same for a name that may have a key.
+    /// Does the same for a name that may have a key.
     pub fn begin_named(&mut self, name: Name, words: &'static str) {
         if !self.text.is_empty() {
             self.add("; ");
@@ -136,17 +136,17 @@ impl Phrase {
         self.add_word(words);
     }
 
-    /// Whether there are words after the name that was given last.
+    /// Returns whether there are words after the name that was given last.
     pub fn has_words(&self) -> bool {
         self.text.len() > self.named
     }
 
-    /// A phrase without words, of the same memory.
+    /// Returns a phrase without words, of the same memory.
     pub fn empty(&self) -> Phrase {
         Phrase::new(self.alloc)
     }
 
-    /// The allocator.
+    /// Returns the allocator.
     pub fn alloc(&self) -> Global {
         self.alloc
     }
@@ -228,7 +228,7 @@ impl Phrase {
         }
     }
 
-    /// An empty quote.
+    /// Returns an empty quote.
     pub fn quote(&self) -> Quote {
         Quote::new(self.alloc)
     }
@@ -367,7 +367,7 @@ impl Phrase {
         }
     }
 
-    // The same for few bytes.
+    // Does the same for few bytes.
     fn add_short_base64(&mut self, bytes: &[u8]) {
         let text = short_base64::encode(bytes);
         if let Some(plain) = plain_text(&text[..short_base64::length(bytes.len()).min(32)]) {
@@ -448,7 +448,7 @@ impl Phrase {
         self.hidden.note(c);
     }
 
-    /// The number of columns before the next text, but for quoted text.
+    /// Returns the number of columns before the next text, but for quoted text.
     pub(crate) fn columns(&self) -> usize {
         self.columns
     }

@@ -5,8 +5,8 @@ ghost use Rattle.dump_page.specs.Quoted.{is_plain, is_word_byte};
 
 use esc_values::ascii::as_str;
 
-/// Whether all bytes are characters that come as they are, in words and between quotes: 20 to 7E
-/// (hexadecimal), but `"` and `\`.
+/// Returns whether all bytes are characters that come as they are, in words and between quotes: 20
+/// to 7E (hexadecimal), but `"` and `\`.
 pub fn is_plain(bytes: &[u8]) -> bool
     ensures { result ≡ list_all is_plain bytes.now }
 {
@@ -17,7 +17,7 @@ pub fn is_plain(bytes: &[u8]) -> bool
     all
 }
 
-// Whether a byte is such a character.
+// Returns whether a byte is such a character.
 #[inline]
 fn is_plain_byte(byte: u8) -> bool
     ensures { result ≡ is_plain byte }
@@ -25,7 +25,7 @@ fn is_plain_byte(byte: u8) -> bool
     0x20 <= byte && byte <= 0x7e && byte != 0x22 && byte != 0x5c
 }
 
-/// The text of these bytes, if all are such characters.
+/// Returns the text of these bytes, if all are such characters.
 pub fn plain_text(bytes: &[u8]) -> Option<&str>
     ensures { IfSome result (λ t. (list_all is_plain t.now ≡ true) × (t.now ≡ bytes.now)) }
 {
@@ -36,7 +36,7 @@ pub fn plain_text(bytes: &[u8]) -> Option<&str>
     }
 }
 
-/// Whether all bytes are characters of words: 20 to 7E (hexadecimal), but `"`.
+/// Returns whether all bytes are characters of words: 20 to 7E (hexadecimal), but `"`.
 pub fn are_words(bytes: &[u8]) -> bool
     ensures { result ≡ list_all is_word_byte bytes.now }
 {
@@ -47,7 +47,7 @@ pub fn are_words(bytes: &[u8]) -> bool
     all
 }
 
-// Whether a byte is such a character.
+// Returns whether a byte is such a character.
 #[inline]
 fn is_word_byte(byte: u8) -> bool
     ensures { result ≡ is_word_byte byte }
@@ -55,7 +55,7 @@ fn is_word_byte(byte: u8) -> bool
     0x20 <= byte && byte <= 0x7e && byte != 0x22
 }
 
-/// The text of these bytes, if all are such characters.
+/// Returns the text of these bytes, if all are such characters.
 pub fn word_text(bytes: &[u8]) -> Option<&str>
     ensures { IfSome result (λ t. (list_all is_word_byte t.now ≡ true) × (t.now ≡ bytes.now)) }
 {
@@ -66,7 +66,7 @@ pub fn word_text(bytes: &[u8]) -> Option<&str>
     }
 }
 
-/// How many bytes come first that are written as they are.
+/// Returns how many bytes come first that are written as they are.
 pub fn plain_run(bytes: &[u8]) -> usize
     ensures { result ≤ length bytes.now }
 {
@@ -78,7 +78,7 @@ pub fn plain_run(bytes: &[u8]) -> usize
     bytes.len()
 }
 
-/// The most bytes, of at most so many, that end no character early, if they are UTF-8.
+/// Returns the most bytes, of at most so many, that end no character early, if they are UTF-8.
 pub fn boundary(bytes: &[u8], most: usize) -> usize
     ensures { result ≤ length bytes.now }
 {
@@ -91,7 +91,7 @@ pub fn boundary(bytes: &[u8], most: usize) -> usize
     end
 }
 
-/// The hexadecimal digit of a number below 16; the letter of 10 is this one.
+/// Returns the hexadecimal digit of a number below 16; the letter of 10 is this one.
 pub fn digit(number: u8, ten: u8) -> char {
     if number < 10 {
         char::from(b'0'.saturating_add(number))
@@ -100,7 +100,7 @@ pub fn digit(number: u8, ten: u8) -> char {
     }
 }
 
-/// The byte of that digit.
+/// Returns the byte of that digit.
 pub fn digit_byte(number: u8, ten: u8) -> u8 {
     if number < 10 {
         b'0'.saturating_add(number)
@@ -109,7 +109,7 @@ pub fn digit_byte(number: u8, ten: u8) -> u8 {
     }
 }
 
-/// So many spaces, of at most 32.
+/// Returns so many spaces, of at most 32.
 pub fn spaces(count: usize) -> &'static str {
     match SPACES.get(count) {
         Some(spaces) => *spaces,

@@ -19,7 +19,7 @@ pub struct Quote {
 }
 
 impl Quote {
-    /// No bytes. Takes no memory.
+    /// Returns no bytes. Takes no memory.
     #[tactic(auto, using(crate::proofs::Quoting::no_quote))]
     pub fn new(alloc: Global) -> Quote {
         Quote {
@@ -30,19 +30,19 @@ impl Quote {
         }
     }
 
-    /// The text between the quotes.
+    /// Returns the text between the quotes.
     pub fn as_str(&self) -> &str
         ensures { ∥ IsQuote result.now ∥₁ }
     {
         self.text.as_str()
     }
 
-    /// Whether memory was refused, and bytes are left out.
+    /// Returns whether memory was refused, and bytes are left out.
     pub fn is_refused(&self) -> bool {
         self.is_refused
     }
 
-    /// Which characters that deceive came.
+    /// Returns which characters that deceive came.
     pub(crate) fn hidden(&self) -> &Hidden {
         &self.hidden
     }

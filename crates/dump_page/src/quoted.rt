@@ -1,4 +1,4 @@
-//! How bytes come between quotes.
+//! This module says how bytes come between quotes. An error is that memory was refused.
 ghost use Rattle.std.specs.Prelude.{◌≡◌, ◌≢◌, ◌<◌, ◌∷◌, ◌++◌, [], OnOk, true};
 ghost use Rattle.std.specs.Str.Chunks.{utf8_chunk_invalid, utf8_chunk_valid};
 ghost use Rattle.std.specs.Char.{digit_value, encode_utf8};
@@ -152,7 +152,7 @@ fn push_run(text: &str, to: &mut Text) -> Result<(), AllocError>
     Ok(())
 }
 
-// A character that is shown: this one, or U+FFFD for one that is not.
+// Returns a character that is shown: this one, or U+FFFD for one that is not.
 fn shown_for(c: char) -> char
     ensures { is_shown result ≡ true }
 {
@@ -203,7 +203,7 @@ fn push_byte(byte: u8, to: &mut Text) -> Result<(), AllocError>
     to.push(digit(byte % 16))
 }
 
-// The digit of a number below 16.
+// Returns the digit of a number below 16.
 fn digit(number: u8) -> char
     requires { number < 16 }
     ensures shown { is_shown result ≡ true }

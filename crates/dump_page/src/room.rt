@@ -1,4 +1,4 @@
-//! How long words may be.
+//! This module says how long words may be.
 
 /// The number of bytes that words may have, and the count of those that are left out.
 #[derive(Clone, Copy, Drop)]
@@ -16,7 +16,7 @@ impl Room {
         is_short: false,
     };
 
-    /// At most so many, but a text that is begun before is whole.
+    /// Returns room for at most so many, but a text that is begun before is whole.
     pub fn of(most: usize) -> Room {
         Room {
             most,
@@ -25,7 +25,7 @@ impl Room {
         }
     }
 
-    /// Whether words of this length have room for more, and notes if they have not.
+    /// Returns whether words of this length have room for more, and notes if they have not.
     #[inline]
     pub fn has_more(&mut self, length: usize) -> bool {
         let has_more = length < self.most;
@@ -33,7 +33,7 @@ impl Room {
         has_more
     }
 
-    /// How many bytes more words of this length may have.
+    /// Returns how many bytes more words of this length may have.
     pub fn left(&self, length: usize) -> usize {
         self.most.saturating_sub(length)
     }
@@ -43,12 +43,12 @@ impl Room {
         self.left_out = self.left_out.saturating_add(count as u64);
     }
 
-    /// How many bytes of texts are left out.
+    /// Returns how many bytes of texts are left out.
     pub fn left_out(&self) -> u64 {
         self.left_out
     }
 
-    /// Whether words are left out.
+    /// Returns whether words are left out.
     pub fn is_short(&self) -> bool {
         self.is_short
     }

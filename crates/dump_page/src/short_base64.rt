@@ -3,10 +3,11 @@
 /// The most bytes that are encoded so.
 pub const MOST: usize = 24;
 
-// How many characters they are.
+// Says how many characters they are.
 const LENGTH: usize = 32;
 
-/// The characters of at most so many bytes, in the first places of this room, after which it has
+/// Returns the characters of at most so many bytes, in the first places of this room, after which
+/// it has
 /// `=` alone.
 pub fn encode(bytes: &[u8]) -> [u8; LENGTH] {
     let mut text = [b'='; LENGTH];
@@ -28,7 +29,7 @@ pub fn encode(bytes: &[u8]) -> [u8; LENGTH] {
     text
 }
 
-// How many of three bytes come first, and these.
+// Returns how many of three bytes come first, and these.
 fn first_three(bytes: &[u8]) -> (usize, [u8; 3]) {
     match bytes {
         [first, second, third, ..] => (3, [*first, *second, *third]),
@@ -38,7 +39,7 @@ fn first_three(bytes: &[u8]) -> (usize, [u8; 3]) {
     }
 }
 
-// The digit of a number below 64.
+// Returns the digit of a number below 64.
 fn digit(number: u8) -> u8 {
     match number {
         0..=25 => b'A' + number,
@@ -49,7 +50,7 @@ fn digit(number: u8) -> u8 {
     }
 }
 
-/// How many characters so many bytes become.
+/// Returns how many characters so many bytes become.
 pub fn length(count: usize) -> usize {
     (count.saturating_add(2) / 3).saturating_mul(4)
 }

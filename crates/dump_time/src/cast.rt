@@ -15,7 +15,7 @@ pub struct Heard<'a> {
     pub time: u64,
     /// The text.
     pub text: &'a str,
-    /// Whether a user typed it, and no program wrote it.
+    /// Says whether a user typed it, and no program wrote it.
     pub is_input: bool,
 }
 
@@ -26,7 +26,7 @@ pub struct Cast {
     scratch: Scratch<Global>,
     // The line so far.
     line: Vec<u8>,
-    // Whether it is whole.
+    // Says whether it is whole.
     is_whole: bool,
     // The number of lines so far.
     count: u64,
@@ -34,7 +34,7 @@ pub struct Cast {
 }
 
 impl Cast {
-    /// The beginning of a recording. Takes no memory.
+    /// Returns the beginning of a recording. Takes no memory.
     pub fn new(alloc: Global) -> Cast {
         Cast {
             alloc,
@@ -47,7 +47,8 @@ impl Cast {
     }
 
     /// Takes the bytes up to a line feed, and returns those after it. The line can then be
-    /// [`heard`](Cast::heard). Without a line feed it takes all bytes, and returns none.
+    /// [`heard`](Cast::heard). Without a line feed it takes all bytes, and returns none. The error
+    /// is that memory was refused.
     pub fn take<'b>(&mut self, bytes: &'b [u8]) -> Result<Option<&'b [u8]>, TimeError> {
         if self.is_whole {
             self.is_whole = false;
@@ -74,12 +75,13 @@ impl Cast {
         }
     }
 
-    /// Whether a line without a line feed came. The last line may have none.
+    /// Returns whether a line without a line feed came. The last line may have none.
     pub fn has_rest(&self) -> bool {
         !self.is_whole && !self.line.is_empty()
     }
 
-    /// The text of the line, if it has one.
+    /// Returns the text of the line, if it has one. The error is that it is no line of a recording,
+    /// or that memory was refused.
     pub fn heard(&mut self) -> Result<Option<Heard<'_>>, TimeError> {
         self.count = self.count.saturating_add(1);
         self.is_whole = true;
@@ -89,7 +91,7 @@ impl Cast {
     }
 }
 
-// The text of the line with this number, if it has one.
+// Returns the text of the line with this number, if it has one.
 fn heard_in<'a>(
     alloc: Global,
     count: u64,
@@ -101,7 +103,7 @@ fn heard_in<'a>(
     Ok(heard_by(event, clock))
 }
 
-// The event of the line with this number.
+// Returns the event of the line with this number.
 fn event_at<'a>(
     alloc: Global,
     count: u64,
@@ -118,7 +120,7 @@ fn event_at<'a>(
     }
 }
 
-// The text of an event, if it has one, with its time by the clock.
+// Returns the text of an event, if it has one, with its time by the clock.
 fn heard_by<'a>(event: Event<'a>, clock: &mut Clock) -> Option<Heard<'a>> {
     match event {
         Event::Output(time, text) => Some(heard_at(clock.next(time), text, false)),
@@ -135,7 +137,7 @@ fn heard_by<'a>(event: Event<'a>, clock: &mut Clock) -> Option<Heard<'a>> {
     }
 }
 
-// A text with its time.
+// Returns a text with its time.
 fn heard_at<'a>(time: u64, text: &'a str, is_input: bool) -> Heard<'a> {
     Heard {
         time,

@@ -9,7 +9,7 @@ struct Decimal {
     has_point: bool,
 }
 
-// From here on no digit is added: 18 are enough for the microseconds of 30,000 years.
+// No digit is added from here on: 18 are enough for the microseconds of 30,000 years.
 const MANY: u64 = 100_000_000_000_000_000;
 
 impl Decimal {
@@ -30,7 +30,7 @@ impl Decimal {
         }
     }
 
-    // How many millionths it is, times this power of 10, rounded down.
+    // Returns how many millionths it is, times this power of 10, rounded down.
     fn micros(self, exponent: i64) -> u64 {
         let mut shift = exponent.saturating_add(6).saturating_sub(self.places);
         let mut value = self.value;
@@ -47,8 +47,8 @@ impl Decimal {
     }
 }
 
-/// The number of microseconds of so many seconds, rounded down: a number as JSON writes it (RFC
-/// 8259, 6). A negative one is 0. None, if the text is no such number.
+/// Returns the number of microseconds of so many seconds, rounded down: a number as JSON writes it
+/// (RFC 8259, 6). A negative one is 0. None, if the text is no such number.
 pub fn micros_in(text: &[u8]) -> Option<u64> {
     match text {
         [b'-', rest @ ..] => match decimal_in(rest) {
@@ -59,7 +59,7 @@ pub fn micros_in(text: &[u8]) -> Option<u64> {
     }
 }
 
-// The microseconds of a number without a sign.
+// Returns the microseconds of a number without a sign.
 fn decimal_in(text: &[u8]) -> Option<u64> {
     let mut decimal = Decimal {
         value: 0,
@@ -80,7 +80,7 @@ fn decimal_in(text: &[u8]) -> Option<u64> {
     Some(decimal.micros(0))
 }
 
-// The microseconds of a number with this exponent, as it is written.
+// Returns the microseconds of a number with this exponent, as it is written.
 fn micros_with(decimal: Decimal, exponent: &[u8]) -> Option<u64> {
     match exponent {
         [b'-', digits @ ..] => match count_in(digits) {
@@ -98,13 +98,13 @@ fn micros_with(decimal: Decimal, exponent: &[u8]) -> Option<u64> {
     }
 }
 
-// An exponent of this size; past a thousand all are one.
+// Returns an exponent of this size; past a thousand all are one.
 fn exponent_of(number: u64) -> i64 {
     i64::try_from(number.min(1000)).unwrap_or(1000)
 }
 
-/// The number that these digits are in decimal; the greatest, if it is greater. None, if one is no
-/// digit, or there are none.
+/// Returns the number that these digits are in decimal; the greatest, if it is greater. None, if
+/// one is no digit, or there are none.
 pub fn count_in(text: &[u8]) -> Option<u64> {
     if text.is_empty() {
         return None;

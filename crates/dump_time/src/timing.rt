@@ -6,13 +6,13 @@ use memchr::memchr;
 /// The entry of a line of a timing file (scriptreplay(1); script(1), "classic" and "advanced").
 #[derive(Clone, Copy)]
 pub enum Entry<'t> {
-    /// After so many microseconds the terminal got so many bytes.
+    /// The terminal got so many bytes after so many microseconds.
     Output(u64, u64),
-    /// After so many microseconds so many bytes were typed.
+    /// So many bytes were typed after so many microseconds.
     Input(u64, u64),
-    /// After so many microseconds so many bytes came, in a file that has one direction alone.
+    /// So many bytes came after so many microseconds, in a file that has one direction alone.
     Either(u64, u64),
-    /// After so many microseconds something else came: a signal.
+    /// Something else came after so many microseconds: a signal.
     Passed(u64),
     /// A header: its name, and its value.
     Header(&'t [u8], &'t [u8]),
@@ -22,8 +22,8 @@ pub enum Entry<'t> {
     Wrong,
 }
 
-/// The entry of a line: `delay count`, or `O delay count`, `I delay count`, `S delay ..` or `H
-/// delay name ..`.
+/// Returns the entry of a line: `delay count`, or `O delay count`, `I delay count`, `S delay ..` or
+/// `H delay name ..`.
 pub fn entry_in(line: &[u8]) -> Entry<'_> {
     match line {
         [] => Entry::Nothing,
@@ -47,13 +47,13 @@ pub fn entry_in(line: &[u8]) -> Entry<'_> {
     }
 }
 
-// A header of this text.
+// Returns a header of this text.
 fn header(text: &[u8]) -> Entry<'_> {
     let (name, value) = word_of(text);
     Entry::Header(name, value)
 }
 
-// A delay and a count.
+// Returns a delay and a count.
 fn counted(text: &[u8]) -> Option<(u64, u64)> {
     let (delay, count) = word_of(text);
     match (micros_in(delay), count_in(count)) {
@@ -62,7 +62,7 @@ fn counted(text: &[u8]) -> Option<(u64, u64)> {
     }
 }
 
-// The first word of a text, and the rest after the space that ends it.
+// Returns the first word of a text, and the rest after the space that ends it.
 fn word_of(text: &[u8]) -> (&[u8], &[u8]) {
     match memchr(b' ', text) {
         Some(at) => (&text[..at], &text[at + 1..]),
@@ -70,7 +70,7 @@ fn word_of(text: &[u8]) -> (&[u8], &[u8]) {
     }
 }
 
-/// The first line of a text, without its line feed, and the rest.
+/// Returns the first line of a text, without its line feed, and the rest.
 pub fn line_of(text: &[u8]) -> (&[u8], &[u8]) {
     match memchr(b'\n', text) {
         Some(at) => (&text[..at], &text[at + 1..]),

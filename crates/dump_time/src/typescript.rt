@@ -11,9 +11,9 @@ pub struct Run<'b> {
     pub time: u64,
     /// They.
     pub text: &'b [u8],
-    /// Whether more came at this time.
+    /// Says whether more came at this time.
     pub has_more: bool,
-    /// Whether they are of the direction that is asked for.
+    /// Says whether they are of the direction that is asked for.
     pub is_asked: bool,
     /// The bytes after them.
     pub rest: &'b [u8],
@@ -25,24 +25,24 @@ pub struct Run<'b> {
 pub struct Typescript<'t> {
     // The rest of the timing.
     timing: &'t [u8],
-    // Whether the typed input is asked for, and not the output that the terminal got.
+    // Says whether the typed input is asked for, and not the output that the terminal got.
     is_input: bool,
     // The files of output and of input.
     output_log: &'t [u8],
     input_log: &'t [u8],
-    // Whether the header line of the typescript has ended.
+    // Says whether the header line of the typescript has ended.
     is_begun: bool,
-    // How many bytes are left of the entry, and whether they are of the direction that is asked
-    // for.
+    // Says how many bytes are left of the entry, and whether they are of the direction that is
+    // asked for.
     left: u64,
     is_asked: bool,
-    // How many lines of the timing were read.
+    // Says how many lines of the timing were read.
     count: u64,
     time: u64,
 }
 
 impl<'t> Typescript<'t> {
-    /// A typescript with this timing, of which nothing came; the typed input is asked for, or the
+    /// Returns a typescript with this timing, to which nothing came, for the typed input or for the
     /// output that the terminal got.
     pub fn new(timing: &'t [u8], is_input: bool) -> Typescript<'t> {
         Typescript {
@@ -58,8 +58,8 @@ impl<'t> Typescript<'t> {
         }
     }
 
-    /// The bytes that come next, and came at one time; none, if all of these are taken, or no entry
-    /// of the timing is left.
+    /// Returns the bytes that come next, and came at one time; none, if all of these are taken, or
+    /// no entry of the timing is left. The error is that a line of the timing is no entry.
     pub fn next<'b>(&mut self, bytes: &'b [u8]) -> Result<Option<Run<'b>>, TimeError> {
         let bytes = self.begin(bytes);
         if bytes.is_empty() || !self.has_entry()? {
@@ -86,7 +86,7 @@ impl<'t> Typescript<'t> {
         }
     }
 
-    // The bytes after the header line.
+    // Returns the bytes after the header line.
     fn begin<'b>(&mut self, bytes: &'b [u8]) -> &'b [u8] {
         if self.is_begun {
             return bytes;
@@ -100,7 +100,7 @@ impl<'t> Typescript<'t> {
         }
     }
 
-    // Whether an entry has bytes of this file: reads entries up to one that has.
+    // Returns whether an entry has bytes of this file: reads entries up to one that has.
     fn has_entry(&mut self) -> Result<bool, TimeError> {
         for _ in 0..u64::MAX {
             if self.left > 0 {
@@ -142,7 +142,7 @@ impl<'t> Typescript<'t> {
         }
     }
 
-    // Whether one file has the output that the terminal got and the typed input.
+    // Returns whether one file has the output that the terminal got and the typed input.
     fn has_both(&self) -> bool {
         !self.output_log.is_empty() && self.output_log == self.input_log
     }

@@ -46,7 +46,7 @@ pub enum Action<A: Allocator = Global> {
 }
 
 impl<A: Allocator> Action<A> {
-    /// Whether this is the escape sequence of a string terminator, `ESC \`.
+    /// Returns whether this is the escape sequence of a string terminator, `ESC \`.
     pub fn is_terminator(&self) -> bool
         ensures { result ≡ is_terminator (value_of self.now) }
     {
@@ -56,7 +56,7 @@ impl<A: Allocator> Action<A> {
         }
     }
 
-    /// Whether a string terminator ends its text.
+    /// Returns whether a string terminator ends its text.
     pub fn is_string(&self) -> bool
         ensures { result ≡ is_string (value_of self.now) }
     {
@@ -77,7 +77,7 @@ impl<A: Allocator> Action<A> {
         }
     }
 
-    /// Whether it can be written: a sixel image with a value over 63 cannot.
+    /// Returns whether it can be written: a sixel image with a value over 63 cannot.
     pub fn has_text(&self) -> bool
         ensures { result ≡ has_text (value_of self.now) }
     {
@@ -87,7 +87,8 @@ impl<A: Allocator> Action<A> {
         }
     }
 
-    /// Whether a string terminator ends its text and its own text does not have it: a list adds it.
+    /// Returns whether a string terminator ends its text and its own text does not have it: a list
+    /// adds it.
     pub fn is_left_open(&self) -> bool
         ensures { result ≡ is_left_open (value_of self.now) }
     {

@@ -35,7 +35,7 @@ impl<A: Allocator + Copy> Action<A> {
         }
     }
 
-    // Whether it is a character or a string of them.
+    // Returns whether it is a character or a string of them.
     fn is_characters(&self) -> bool
         ensures { result ≡ is_characters (value_of self.now) }
     {
@@ -63,7 +63,7 @@ impl<A: Allocator + Copy> Action<A> {
     }
 }
 
-// The text of two characters.
+// Returns the text of two characters.
 fn two_characters<A: Allocator>(alloc: A, first: char, second: char) -> Result<Text<A>, AllocError>
     ensures ok { IfOk result (λ t. t ≡ encode_utf8 first ++ encode_utf8 second) }
     ensures refused { OnErr result (Refused A) }

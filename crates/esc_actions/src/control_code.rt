@@ -135,15 +135,15 @@ pub enum ControlCode {
 }
 
 impl ControlCode {
-    /// The code with this number, if there is one: none for 80, 81 and 99, and for a number that is
-    /// no control.
+    /// Returns the code with this number, if there is one: none for 80, 81 and 99, and for a number
+    /// that is no control.
     pub fn from_byte(byte: u8) -> Option<ControlCode>
         ensures { result ≡ code_of byte }
     {
         ControlCode::numbered(byte)
     }
 
-    // The same, said code by code.
+    // Does the same, said code by code.
     fn numbered(byte: u8) -> Option<ControlCode>
         ensures { MatchOption result ((c : ControlCode)
             → byte ≢ code_number c) (λ c. byte ≡ code_number c) }
@@ -214,7 +214,7 @@ impl ControlCode {
         }
     }
 
-    /// The character of the same number.
+    /// Returns the character of the same number.
     pub fn as_char(self) -> char
         ensures { result ≡ code_number self }
     {

@@ -11,7 +11,8 @@ use esc_device::DeviceControlMode;
 use esc_sequences::{CSI, Esc};
 use std::alloc::Allocator;
 
-/// Whether this is one of the actions that a parser may emit though no text reads back as them.
+/// Returns whether this is one of the actions that a parser may emit though no text reads back as
+/// them.
 pub fn is_exception<A: Allocator>(action: &Action<A>) -> bool
     ensures { result ≡ is_exception (value_of action.now) }
 {
@@ -29,7 +30,7 @@ pub fn is_exception<A: Allocator>(action: &Action<A>) -> bool
     }
 }
 
-/// Whether the text of the escape sequence begins a string or a control sequence.
+/// Returns whether the text of the escape sequence begins a string or a control sequence.
 #[tactic(auto, using(crate::proofs::Openers::opens_by_letter))]
 pub fn is_opening(esc: &Esc) -> bool
     ensures { result ≡ is_opening esc.now }
@@ -43,7 +44,7 @@ pub fn is_opening(esc: &Esc) -> bool
     }
 }
 
-// Whether this letter, after ESC, opens a string or a control sequence.
+// Returns whether this letter, after ESC, opens a string or a control sequence.
 fn is_opener(letter: u8) -> bool
     ensures { result ≡ is_opener letter }
 {
@@ -55,7 +56,7 @@ fn is_opener(letter: u8) -> bool
         || letter == b'_'
 }
 
-/// Whether parameters of the control sequence were left out.
+/// Returns whether parameters of the control sequence were left out.
 pub fn is_truncated<A: Allocator>(csi: &CSI<A>) -> bool
     ensures { result ≡ is_truncated (csi_value csi.now) }
 {
@@ -65,7 +66,7 @@ pub fn is_truncated<A: Allocator>(csi: &CSI<A>) -> bool
     }
 }
 
-// Whether intermediates of a header were left out, or a byte of data is A0 to FF.
+// Returns whether intermediates of a header were left out, or a byte of data is A0 to FF.
 fn is_incomplete<A: Allocator>(mode: &DeviceControlMode<A>) -> bool
     ensures { result ≡ is_exception (device_value mode.now) }
 {
@@ -79,7 +80,7 @@ fn is_incomplete<A: Allocator>(mode: &DeviceControlMode<A>) -> bool
     }
 }
 
-/// Whether one of the bytes is A0 to FF, which a device control string cannot hold as data.
+/// Returns whether one of the bytes is A0 to FF, which a device control string cannot hold as data.
 pub fn has_high_byte(bytes: &[u8]) -> bool
     ensures { result ≡ list_any is_high_byte bytes.now }
 {

@@ -16,7 +16,7 @@ pub struct OneBased {
 }
 
 impl OneBased {
-    /// The coordinate with this number, counted from 1.
+    /// Returns the coordinate with this number, counted from 1.
     pub fn new(value: u32) -> OneBased
         requires { 0 < value }
         ensures { one_based result ≡ value }
@@ -26,7 +26,7 @@ impl OneBased {
         }
     }
 
-    /// The coordinate with this number, counted from 0.
+    /// Returns the coordinate with this number, counted from 0.
     pub fn from_zero_based(value: u32) -> OneBased
         requires { value + 1 < 2 ^ 32 }
         ensures { one_based result ≡ value + 1 }
@@ -34,8 +34,8 @@ impl OneBased {
         OneBased::new(value + 1)
     }
 
-    /// The coordinate that a parameter names; 0 names the first. The error is that the parameter is
-    /// no number from 0 to `u32::MAX`.
+    /// Returns the coordinate that a parameter names; 0 names the first. The error is that the
+    /// parameter is no number from 0 to `u32::MAX`.
     pub fn from_esc_param(param: &CsiParam) -> Result<OneBased, ()>
         ensures ok { IfOk result (λ o. coordinate 1 param.now ≡ Some (one_based o)) }
         ensures err { OnErr result (coordinate 1 param.now ≡ None) }
@@ -43,8 +43,8 @@ impl OneBased {
         OneBased::from_param(param, 1)
     }
 
-    /// The coordinate that a parameter names; 0 names the last, `u32::MAX`. The error is that the
-    /// parameter is no number from 0 to `u32::MAX`.
+    /// Returns the coordinate that a parameter names; 0 names the last, `u32::MAX`. The error is
+    /// that the parameter is no number from 0 to `u32::MAX`.
     pub fn from_esc_param_with_big_default(param: &CsiParam) -> Result<OneBased, ()>
         ensures ok { IfOk result (λ o. coordinate (2 ^ 32 - 1) param.now ≡ Some (one_based o)) }
         ensures err { OnErr result (coordinate (2 ^ 32 - 1) param.now ≡ None) }
@@ -52,8 +52,8 @@ impl OneBased {
         OneBased::from_param(param, u32::MAX)
     }
 
-    /// The coordinate that a parameter names; 0 and no parameter name the first. The error is that
-    /// the parameter is no number from 0 to `u32::MAX`.
+    /// Returns the coordinate that a parameter names; 0 and no parameter name the first. The error
+    /// is that the parameter is no number from 0 to `u32::MAX`.
     pub fn from_optional_esc_param(param: Option<&CsiParam>) -> Result<OneBased, ()>
         ensures ok { IfOk result (λ o. optional_coordinate (option_map (λ p. p.now) param.entry)
             ≡ Some (one_based o)) }
@@ -66,7 +66,7 @@ impl OneBased {
         }
     }
 
-    // The coordinate that a parameter names; 0 names `default`.
+    // Returns the coordinate that a parameter names; 0 names `default`.
     fn from_param(param: &CsiParam, default: u32) -> Result<OneBased, ()>
         requires { 0 < default }
         ensures ok { IfOk result (λ o. coordinate default param.now ≡ Some (one_based o)) }
@@ -82,14 +82,14 @@ impl OneBased {
         }
     }
 
-    /// Its number, counted from 0.
+    /// Returns its number, counted from 0.
     pub fn as_zero_based(&self) -> u32
         ensures { result + 1 ≡ one_based self.now }
     {
         self.value.get() - 1
     }
 
-    /// Its number, counted from 1.
+    /// Returns its number, counted from 1.
     pub fn as_one_based(&self) -> u32
         ensures { result ≡ one_based self.now }
     {

@@ -27,7 +27,7 @@ pub struct AccountRow {
 }
 
 impl AccountRow {
-    /// That of an account.
+    /// Returns the row of an account.
     pub(crate) fn from_account(account: Account) -> AccountRow
         ensures { result ≡ row_of account }
     {
@@ -45,7 +45,7 @@ impl AccountRow {
     }
 }
 
-// So many, if that is less than 2^64.
+// Returns this number if it is less than 2^64, else the greatest below.
 fn length_of(total: u128) -> u64
     ensures { result ≡ length_of total }
 {

@@ -28,9 +28,10 @@ pub struct CellRow {
     pub underline_color: u32,
     /// The number of the link to which it leads, from 1 on, or 0.
     pub link: u32,
-    /// How many columns the character takes: 1, 2, or 0 for the second half of one of two columns.
+    /// Says how many columns the character takes: 1, 2, or 0 for the second half of one of two
+    /// columns.
     pub width: u8,
-    /// How it is underlined: 0 not, 1 once, 2 twice, 3 wavy, 4 dotted, 5 dashed.
+    /// Says how it is underlined: 0 not, 1 once, 2 twice, 3 wavy, 4 dotted, 5 dashed.
     pub underline: u8,
     /// SGR 1.
     pub bold: bool,
@@ -48,14 +49,14 @@ pub struct CellRow {
     pub strikethrough: bool,
     /// SGR 53.
     pub overline: bool,
-    /// Whether marks on the character are left out: those after the second one.
+    /// Says whether marks on the character are left out: those after the second one.
     pub more_marks: bool,
-    /// Whether the row goes on in the next one, if it is the last cell of the row.
+    /// Says whether the row goes on in the next one, if it is the last cell of the row.
     pub joined: bool,
 }
 
 impl CellRow {
-    /// That of a cell, which has the number of one of these looks and links.
+    /// Returns the row of a cell, which has the number of one of these looks and links.
     pub(crate) fn of(cell: Cell, styles: &Styles) -> CellRow
         ensures { result ≡ cell_row (known_of styles.now) cell }
     {
@@ -122,7 +123,7 @@ fn mark_number(mark: Option<char>) -> u32
     }
 }
 
-// The number of a link from 1 on, or 0.
+// Returns the number of a link from 1 on, or 0.
 fn link_count(place: Option<u16>) -> u32
     ensures { result ≡ link_count place }
 {

@@ -6,28 +6,28 @@ ghost use Rattle.esc_values.specs.Clear.{is_clear, IsClearText};
 
 use esc_values::scalar::text_in;
 
-// Whether a character is clear: neither C0 nor C1.
+// Returns whether a character is clear: neither C0 nor C1.
 fn is_clear(c: char) -> bool
     ensures { result ≡ is_clear c }
 {
     matches!(c, ' '..='\u{7f}' | '\u{a0}'..)
 }
 
-// Whether each character of a text is clear.
+// Returns whether each character of a text is clear.
 fn are_clear(text: &str) -> bool
     ensures { result ≡ list_all is_clear (chars text.now) }
 {
     text.chars().all(is_clear)
 }
 
-// Whether a text is one of clear characters.
+// Returns whether a text is one of clear characters.
 fn is_clear_str(text: &str) -> bool
     ensures { IsTrue result ↔ IsClearText text.now }
 {
     are_clear(text)
 }
 
-/// Whether bytes are a text of clear characters.
+/// Returns whether bytes are a text of clear characters.
 pub(crate) fn is_clear_text(bytes: &[u8]) -> bool
     ensures { IsTrue result ↔ IsClearText bytes.now }
 {

@@ -1,4 +1,4 @@
-//! Which option is none.
+//! This module says which option is none.
 ghost use Rattle.std.specs.Prelude.{◌≡◌};
 ghost use Rattle.esc_calls.specs.SanitizerOptions.{status_of};
 
@@ -7,7 +7,7 @@ use crate::{
     UNKNOWN_GROUP, UNKNOWN_LINKS, UNKNOWN_POLICY, UNKNOWN_RETURNS, UNKNOWN_SHOW, UNKNOWN_SIZE,
 };
 
-/// Which of the numbers that say how a stream is sanitized says nothing.
+/// Says which of the numbers that say how a stream is sanitized says nothing.
 #[derive(Clone, Copy)]
 pub enum Fault {
     /// The size is not that of the options, or a reserved field is not 0.
@@ -35,7 +35,7 @@ pub enum Fault {
 }
 
 impl Fault {
-    /// The status that says it.
+    /// Returns the status that says it.
     pub(crate) fn status(self) -> u32
         ensures { result ≡ status_of self }
     {

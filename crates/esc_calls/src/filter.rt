@@ -12,7 +12,7 @@ use esc_filter::{Filter, Policy, passed_reads_back};
 use esc_frame::ParseError;
 use std::alloc::Global;
 
-/// The work of `escape_stream_filter` of `escape_c`.
+/// Does the work of `escape_stream_filter` of `escape_c`.
 pub fn filter(
     alloc: Global,
     policy: u32,
@@ -32,7 +32,7 @@ pub fn filter(
     }
 }
 
-/// The policy of this number.
+/// Returns the policy of this number.
 pub(crate) fn policy_of(number: u32) -> Option<Policy>
     ensures { result ≡ policy_numbered number }
 {
@@ -45,7 +45,7 @@ pub(crate) fn policy_of(number: u32) -> Option<Policy>
     }
 }
 
-// The same for a policy that there is.
+// Does the same for a policy that there is.
 fn filter_by(
     alloc: Global,
     policy: Policy,
@@ -66,7 +66,7 @@ fn filter_by(
     }
 }
 
-// A filter that was fed the bytes, and holds the text of the actions that pass.
+// Returns a filter that was fed the bytes, and holds the text of the actions that pass.
 fn filtered(
     alloc: Global,
     policy: Policy,

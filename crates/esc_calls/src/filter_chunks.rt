@@ -18,7 +18,7 @@ use crate::{DONE, NO_MEMORY, NOT_BEGUN, UNKNOWN_POLICY};
 use esc_filter::{Filter, closing_comes_last, passed_reads_back};
 use std::alloc::Global;
 
-/// The work of `escape_stream_filter_begin` of `escape_c`.
+/// Does the work of `escape_stream_filter_begin` of `escape_c`.
 pub fn filter_begin(alloc: Global, filter: &mut InChunks, policy: u32, limit: usize) -> u32
     ensures begun { result ≡ DONE → IfSome (policy_numbered policy) (λ p.
         Begins (FilterHasConsumed limit p) filter.new) }
@@ -35,7 +35,7 @@ pub fn filter_begin(alloc: Global, filter: &mut InChunks, policy: u32, limit: us
     begin(alloc, filter, kept)
 }
 
-/// The work of `escape_stream_filter_feed` of `escape_c`.
+/// Does the work of `escape_stream_filter_feed` of `escape_c`.
 pub fn filter_feed(alloc: Global, filter: &mut InChunks, bytes: &[u8]) -> u32
     ensures taken { (limit : ℕ) (p : Policy) (s : List ℕ) → FilterHasConsumed limit p s filter.old
         → result ≡ DONE → TakesFilter limit p s bytes.now filter.new }
@@ -50,7 +50,7 @@ pub fn filter_feed(alloc: Global, filter: &mut InChunks, bytes: &[u8]) -> u32
     change_kept!(alloc, filter, Filter(inner), inner.feed(bytes))
 }
 
-/// The work of `escape_stream_filter_finish` of `escape_c`.
+/// Does the work of `escape_stream_filter_finish` of `escape_c`.
 pub fn filter_finish(alloc: Global, filter: &mut InChunks) -> u32
     ensures finished { (limit : ℕ) (p : Policy) (s : List ℕ)
         → FilterHasConsumed limit p s filter.old
@@ -65,7 +65,7 @@ pub fn filter_finish(alloc: Global, filter: &mut InChunks) -> u32
     change_kept!(alloc, filter, Filter(inner), inner.finish())
 }
 
-/// The work of `escape_stream_filter_text` of `escape_c`.
+/// Does the work of `escape_stream_filter_text` of `escape_c`.
 pub fn filter_text(alloc: Global, filter: &mut InChunks, from: usize, out: &mut [u8]) -> usize
     ensures copied { Copies (text_of filter.old) from out.old out.new result }
     ensures kept { Stays filter.old filter.new }
@@ -73,7 +73,7 @@ pub fn filter_text(alloc: Global, filter: &mut InChunks, from: usize, out: &mut 
     copy_text(alloc, filter, from, out)
 }
 
-/// The work of `escape_stream_filter_end` of `escape_c`.
+/// Does the work of `escape_stream_filter_end` of `escape_c`.
 pub fn filter_end(alloc: Global, filter: &mut InChunks)
     ensures { IsEnded filter.new }
 {

@@ -6,7 +6,7 @@ ghost use Rattle.esc_calls.specs.FunctionRows.{Says, SaysControl, SaysEscape, by
 use crate::function_row::{FunctionRow, note};
 use control_functions::{C0, ControlFunction, EscapeFunction};
 
-/// The work of `escape_stream_function` of `escape_c`.
+/// Does the work of `escape_stream_function` of `escape_c`.
 pub fn function(
     private_prefix: u8,
     intermediate: u8,
@@ -30,7 +30,7 @@ pub fn function(
     }
 }
 
-/// The work of `escape_stream_escape_function` of `escape_c`.
+/// Does the work of `escape_stream_escape_function` of `escape_c`.
 pub fn escape_function(intermediate: u8, last: u8, out: &mut FunctionRow) -> bool
     ensures { SaysEscape (escape_function_with intermediate last) out.new result }
 {
@@ -47,7 +47,7 @@ pub fn escape_function(intermediate: u8, last: u8, out: &mut FunctionRow) -> boo
     }
 }
 
-/// The work of `escape_stream_control_function` of `escape_c`.
+/// Does the work of `escape_stream_control_function` of `escape_c`.
 pub fn control_function(code: u8, out: &mut FunctionRow) -> bool
     ensures { SaysControl (control_of code) out.new result }
 {
@@ -64,7 +64,7 @@ pub fn control_function(code: u8, out: &mut FunctionRow) -> bool
     }
 }
 
-// The byte, if it is not 0.
+// Returns the byte, if it is not 0.
 pub(crate) fn byte_of(byte: u8) -> Option<u8>
     ensures { result ≡ byte_of byte }
 {

@@ -11,9 +11,9 @@ pub struct FunctionRow {
     pub name: [u8; 16],
     /// Its description in words, and zeros after them.
     pub phrase: [u8; 80],
-    /// Whether it changes the screen alone, with whatever parameters.
+    /// Says whether it changes the screen alone, with whatever parameters.
     pub changes_screen: bool,
-    /// Whether a terminal answers it, with some of its parameters or with all.
+    /// Says whether a terminal answers it, with some of its parameters or with all.
     pub is_answered: bool,
 }
 

@@ -22,7 +22,7 @@ impl Model for Held {
 }
 
 impl Held {
-    /// No block.
+    /// Returns a holder of no block.
     pub(crate) fn none() -> Held
         ensures { result.kept ≡ None }
     {
@@ -31,7 +31,7 @@ impl Held {
         }
     }
 
-    /// The block of these parts.
+    /// Returns the block of these parts.
     pub(crate) fn of_parts(parts: Parts<Kept, Global>) -> Held
         ensures { result.kept ≡ Some parts.value }
     {
@@ -39,7 +39,7 @@ impl Held {
         Held { at: ptr as *mut u8 }
     }
 
-    /// The parts of the block, if there is one.
+    /// Returns the parts of the block, if there is one.
     pub(crate) fn into_parts(self, alloc: Global) -> Parts<Kept, Global>
         requires { self.kept ≢ None }
         ensures { self.kept ≡ Some result.value }

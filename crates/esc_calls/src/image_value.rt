@@ -5,10 +5,10 @@
 #[repr(C)]
 #[derive(Clone, Copy)]
 pub struct ImageValue {
-    /// Which command of the protocol: the number of an [`ImageKind`](flat_values::ImageKind).
+    /// Says which command of the protocol: the number of an [`ImageKind`](flat_values::ImageKind).
     pub kind: u32,
-    /// How many fields it has.
+    /// Says how many fields it has.
     pub field_count: usize,
-    /// How many bytes the texts of these have together.
+    /// Says how many bytes the texts of these have together.
     pub text_length: usize,
 }

@@ -13,7 +13,7 @@ use std::mem;
 #[repr(C)]
 #[derive(Drop)]
 pub struct InChunks {
-    /// Whether it has begun, and not ended.
+    /// Says whether it has begun, and not ended.
     pub is_begun: bool,
     /// The state that it keeps.
     pub held: Held,
@@ -21,7 +21,7 @@ pub struct InChunks {
 }
 
 impl InChunks {
-    /// One that keeps this.
+    /// Returns one that keeps this state.
     pub(crate) fn of(kept: Box<Kept>) -> InChunks
         ensures begun { result.held.kept ≡ Some kept.value }
     {
@@ -31,7 +31,7 @@ impl InChunks {
         }
     }
 
-    /// The state that it keeps, if it has begun.
+    /// Returns the state that it keeps, if it has begun.
     pub(crate) fn into_kept(self, alloc: Global) -> Option<Box<Kept>>
         ensures some { IfSome result (λ kept. self.held.kept ≡ Some kept.value) }
         ensures none { result ≡ None → self.held.kept ≡ None }

@@ -1,4 +1,4 @@
-//! Whether a stream is in normal form.
+//! This module says whether a stream is in normal form.
 ghost use Rattle.std.specs.Prelude.{◌≡◌, ◌≢◌, ◌↔◌, ℕ, IsTrue, List, true};
 ghost use Rattle.esc_actions.specs.Meaning.{meaning};
 ghost use Rattle.esc_actions.specs.Texts.{list_text};
@@ -10,7 +10,7 @@ use esc_actions::laws;
 use esc_normal::normal_text;
 use std::alloc::Global;
 
-/// The work of `escape_stream_is_normal` of `escape_c`.
+/// Does the work of `escape_stream_is_normal` of `escape_c`.
 pub fn is_normal(alloc: Global, bytes: &[u8], answer: &mut bool) -> u32
     ensures equal { result ≡ DONE
         → (IsTrue answer.new ↔ (list_text (meaning {A = Global} bytes.now) ≡ bytes.now)) }

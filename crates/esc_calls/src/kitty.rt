@@ -10,7 +10,7 @@ use esc_kitty::KittyImage;
 use flat_values::{FieldRow, Fields, ImageKind};
 use std::alloc::{AllocError, Global};
 
-/// The work of `escape_stream_read_kitty` of `escape_c`.
+/// Does the work of `escape_stream_read_kitty` of `escape_c`.
 pub fn read_kitty(
     alloc: Global,
     text: &[u8],
@@ -24,7 +24,7 @@ pub fn read_kitty(
     put_read(read(alloc, text), value, fields, out)
 }
 
-// The image, and its fields.
+// Returns the image, and its fields.
 fn read(alloc: Global, text: &[u8]) -> Result<(ImageValue, Fields), AllocError>
     ensures value { IfOk result (λ r. IsImage text.now r.0) }
     ensures fields { IfOk result (λ r. r.1 ≡ image_table text.now) }

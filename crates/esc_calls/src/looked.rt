@@ -11,7 +11,7 @@ pub struct Looked {
 }
 
 impl Looked {
-    /// No row.
+    /// Returns an empty list of rows.
     pub(crate) fn new(alloc: Global) -> Looked {
         Looked {
             rows: Vec::new(alloc),
@@ -39,7 +39,7 @@ impl Looked {
         Ok(())
     }
 
-    // Whether a row has other cells than when it was last looked at. It is looked at now.
+    // Returns whether a row has other cells than when it was last looked at. It is looked at now.
     fn take(&mut self, alloc: Global, at: usize, cells: &[Cell]) -> Result<bool, AllocError> {
         if at >= self.rows.len() {
             let mut row = Vec::new(alloc);

@@ -9,7 +9,7 @@ use crate::{DONE, NO_MEMORY};
 use esc_normal::normal_text;
 use std::alloc::Global;
 
-/// The work of `escape_stream_normal` of `escape_c`.
+/// Does the work of `escape_stream_normal` of `escape_c`.
 pub fn normal(alloc: Global, bytes: &[u8], out: &mut [u8], needed: &mut usize) -> u32
     ensures { Writes (λ t. t ≡ list_text (meaning {A = Global} bytes.now)) LacksMemory result
         (out.old, needed.old) (out.new, needed.new) }

@@ -15,7 +15,7 @@ use esc_actions::laws;
 use esc_normal::Normaliser;
 use std::alloc::Global;
 
-/// The work of `escape_stream_normal_begin` of `escape_c`.
+/// Does the work of `escape_stream_normal_begin` of `escape_c`.
 pub fn normal_begin(alloc: Global, normaliser: &mut InChunks, limit: usize) -> u32
     ensures begun { result ≡ DONE → Begins (NormaliserHasConsumed limit) normaliser.new }
     ensures refused { result ≢ DONE → (result ≡ NO_MEMORY) × IsEnded normaliser.new }
@@ -25,7 +25,7 @@ pub fn normal_begin(alloc: Global, normaliser: &mut InChunks, limit: usize) -> u
     begin(alloc, normaliser, kept)
 }
 
-/// The work of `escape_stream_normal_feed` of `escape_c`.
+/// Does the work of `escape_stream_normal_feed` of `escape_c`.
 pub fn normal_feed(alloc: Global, normaliser: &mut InChunks, bytes: &[u8]) -> u32
     ensures taken { (limit : ℕ) (s : List ℕ) → NormaliserHasConsumed limit s normaliser.old
         → result ≡ DONE
@@ -40,7 +40,7 @@ pub fn normal_feed(alloc: Global, normaliser: &mut InChunks, bytes: &[u8]) -> u3
     change_kept!(alloc, normaliser, Normal(inner), inner.feed(bytes))
 }
 
-/// The work of `escape_stream_normal_finish` of `escape_c`.
+/// Does the work of `escape_stream_normal_finish` of `escape_c`.
 pub fn normal_finish(alloc: Global, normaliser: &mut InChunks) -> u32
     ensures finished { (limit : ℕ) (s : List ℕ) → NormaliserHasConsumed limit s normaliser.old
         → result ≡ DONE → FinishesNormal limit s normaliser.new }
@@ -51,7 +51,7 @@ pub fn normal_finish(alloc: Global, normaliser: &mut InChunks) -> u32
     change_kept!(alloc, normaliser, Normal(inner), always inner.restart())
 }
 
-/// The work of `escape_stream_normal_text` of `escape_c`.
+/// Does the work of `escape_stream_normal_text` of `escape_c`.
 pub fn normal_text(alloc: Global, normaliser: &mut InChunks, from: usize, out: &mut [u8]) -> usize
     ensures copied { Copies (text_of normaliser.old) from out.old out.new result }
     ensures kept { Stays normaliser.old normaliser.new }
@@ -59,7 +59,7 @@ pub fn normal_text(alloc: Global, normaliser: &mut InChunks, from: usize, out: &
     copy_text(alloc, normaliser, from, out)
 }
 
-/// The work of `escape_stream_normal_end` of `escape_c`.
+/// Does the work of `escape_stream_normal_end` of `escape_c`.
 pub fn normal_end(alloc: Global, normaliser: &mut InChunks)
     ensures { IsEnded normaliser.new }
 {

@@ -10,7 +10,7 @@ use esc_parse::commands::command_in;
 use flat_values::{CommandKind, FieldRow, Fields};
 use std::alloc::{AllocError, Global};
 
-/// The work of `escape_stream_read_osc` of `escape_c`.
+/// Does the work of `escape_stream_read_osc` of `escape_c`.
 pub fn read_osc(
     alloc: Global,
     text: &[u8],
@@ -24,7 +24,7 @@ pub fn read_osc(
     put_read(read(alloc, text), value, fields, out)
 }
 
-// The command, and its fields.
+// Returns the command, and its fields.
 fn read(alloc: Global, text: &[u8]) -> Result<(OscValue, Fields), AllocError>
     ensures value { IfOk result (λ r. IsValue text.now r.0) }
     ensures fields { IfOk result (λ r. r.1 ≡ table_in text.now) }

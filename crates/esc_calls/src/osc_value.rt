@@ -4,10 +4,10 @@
 #[repr(C)]
 #[derive(Clone, Copy)]
 pub struct OscValue {
-    /// Which command: the number of a [`CommandKind`](flat_values::CommandKind).
+    /// Says which command: the number of a [`CommandKind`](flat_values::CommandKind).
     pub kind: u32,
-    /// How many fields it has.
+    /// Says how many fields it has.
     pub field_count: usize,
-    /// How many bytes the texts of these have together.
+    /// Says how many bytes the texts of these have together.
     pub text_length: usize,
 }

@@ -17,7 +17,7 @@ use crate::{DONE, NO_MEMORY, NOT_BEGUN};
 use esc_html::{HtmlWriter, Layout, laws};
 use std::alloc::Global;
 
-/// The work of `escape_stream_html_begin` of `escape_c`.
+/// Does the work of `escape_stream_html_begin` of `escape_c`.
 pub fn html_begin(
     alloc: Global,
     page: &mut InChunks,
@@ -41,7 +41,7 @@ pub fn html_begin(
     begin(alloc, page, kept)
 }
 
-/// The work of `escape_stream_html_feed` of `escape_c`.
+/// Does the work of `escape_stream_html_feed` of `escape_c`.
 pub fn html_feed(alloc: Global, page: &mut InChunks, bytes: &[u8]) -> u32
     ensures taken { (limit : ℕ) (y : Layout) (s : List ℕ) → PageHasConsumed limit y s page.old
         → result ≡ DONE → Takes (PageHasConsumed limit y) (open_page limit y) s bytes.now page.new }
@@ -63,7 +63,7 @@ pub fn html_feed(alloc: Global, page: &mut InChunks, bytes: &[u8]) -> u32
     status
 }
 
-/// The work of `escape_stream_html_finish` of `escape_c`.
+/// Does the work of `escape_stream_html_finish` of `escape_c`.
 pub fn html_finish(alloc: Global, page: &mut InChunks) -> u32
     ensures closed { (limit : ℕ) (y : Layout) (s : List ℕ) → PageHasConsumed limit y s page.old
         → result ≡ DONE → Closes limit y s page.new }
@@ -74,7 +74,7 @@ pub fn html_finish(alloc: Global, page: &mut InChunks) -> u32
     change_kept!(alloc, page, Page(state), always state.has_ended = true)
 }
 
-/// The work of `escape_stream_html_text` of `escape_c`.
+/// Does the work of `escape_stream_html_text` of `escape_c`.
 pub fn html_text(alloc: Global, page: &mut InChunks, from: usize, out: &mut [u8]) -> usize
     ensures copied { Copies (text_of page.old) from out.old out.new result }
     ensures kept { Stays page.old page.new }
@@ -82,7 +82,7 @@ pub fn html_text(alloc: Global, page: &mut InChunks, from: usize, out: &mut [u8]
     copy_text(alloc, page, from, out)
 }
 
-/// The work of `escape_stream_html_end` of `escape_c`.
+/// Does the work of `escape_stream_html_end` of `escape_c`.
 pub fn html_end(alloc: Global, page: &mut InChunks)
     ensures { IsEnded page.new }
 {

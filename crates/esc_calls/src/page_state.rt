@@ -14,7 +14,7 @@ use std::alloc::Global;
 pub struct PageState {
     /// The writer that makes HTML of the stream.
     pub writer: HtmlWriter,
-    /// Whether the stream has ended.
+    /// Says whether the stream has ended.
     pub has_ended: bool,
 }
 
@@ -36,7 +36,7 @@ impl PageState {
         }
     }
 
-    /// The text that the last call added.
+    /// Returns the text that the last call added.
     pub(crate) fn text(&self) -> &str
         ensures { result.now ≡ state_text self.now }
     {

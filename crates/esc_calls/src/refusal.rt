@@ -17,7 +17,7 @@ pub enum Refusal {
 }
 
 impl Refusal {
-    /// The status that says it.
+    /// Returns the status that says it.
     pub(crate) fn status(self) -> u32
         ensures { result ≡ status_of self }
     {

@@ -18,7 +18,7 @@ pub struct RequestRow {
 }
 
 impl RequestRow {
-    /// That of a request.
+    /// Returns the row of a request.
     pub(crate) fn of(request: &Request) -> RequestRow
         ensures { result ≡ request_row request.now }
     {

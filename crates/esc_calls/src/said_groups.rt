@@ -30,9 +30,9 @@ const GROUPS: [Group; 16] = [
     Group::Other,
 ];
 
-/// The groups that pass: those of the policy and those that are allowed, but those that are denied,
-/// and if rows may be written again the groups that change the screen; only links to addresses of
-/// the schemes pass.
+/// Returns the groups that pass: those of the policy and those that are allowed, but those that are
+/// denied, and if rows may be written again the groups that change the screen; only links to
+/// addresses of the schemes pass.
 pub(crate) fn groups_said(
     options: &SanitizerOptions,
     policy: Policy,
@@ -55,7 +55,7 @@ pub(crate) fn groups_said(
     }
 }
 
-// These groups, with those whose bits are set, or without them.
+// Returns these groups, with those whose bits are set, or without them.
 fn with_groups(groups: Groups<'static>, bits: u32, passes: bool) -> Groups<'static>
     ensures { AreWith bits passes groups.entry result }
 {
@@ -70,7 +70,7 @@ fn with_groups(groups: Groups<'static>, bits: u32, passes: bool) -> Groups<'stat
     groups
 }
 
-// These groups, with this one or without it.
+// Returns these groups, with this one or without it.
 fn with_group(groups: Groups<'static>, group: Group, passes: bool) -> Groups<'static>
     ensures { result ≡ with_group groups.entry group passes }
 {
@@ -81,7 +81,8 @@ fn with_group(groups: Groups<'static>, group: Group, passes: bool) -> Groups<'st
     }
 }
 
-// These groups, and if rows may be written again the groups that change the screen, and backspaces.
+// Returns these groups, and if rows may be written again the groups that change the screen, and
+// backspaces.
 fn with_movements(groups: Groups<'static>, rows: u32) -> Groups<'static>
     ensures { result ≡ groups_with_moves rows groups.entry }
 {
@@ -97,7 +98,7 @@ fn with_movements(groups: Groups<'static>, rows: u32) -> Groups<'static>
         .and(Group::Charsets)
 }
 
-// The schemes of the links that pass; all schemes if there are none.
+// Returns the schemes of the links that pass; all schemes if there are none.
 fn schemes_of(links: u32) -> Option<Option<&'static str>>
     ensures { option_map (option_map (λ s. s.now)) result ≡ links_numbered links }
 {

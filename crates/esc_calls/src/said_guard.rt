@@ -8,8 +8,8 @@ use crate::said::{characters_of, returns_of};
 use crate::sanitizer_options::SanitizerOptions;
 use esc_filter::{Guard, Returns};
 
-/// The way in which characters and carriage returns that hide or reorder text are written, if this
-/// is the usual one. Carriage returns are kept in a stream that is one.
+/// Returns the way in which characters and carriage returns that hide or reorder text are written,
+/// if this is the usual one. Carriage returns are kept in a stream that is one.
 pub(crate) fn guard_said(
     options: &SanitizerOptions,
     usual: Guard,
@@ -30,7 +30,7 @@ pub(crate) fn guard_said(
     })
 }
 
-// The way in which carriage returns are written by lines, or in a stream that is one.
+// Returns the way in which carriage returns are written by lines, or in a stream that is one.
 fn framed(returns: Returns, by_lines: bool) -> Returns
     ensures { result ≡ framed returns by_lines }
 {

@@ -7,8 +7,8 @@ use crate::sanitizer_options::{MOST_COLUMNS, MOST_ROWS, SanitizerOptions};
 use esc_filter::Unicode;
 use line_collapse::{COLUMNS, Window};
 
-/// The screen whose final rows are written, if rows may be written again; this is the way for
-/// characters that deceive.
+/// Returns the screen whose final rows are written, if rows may be written again; this is the way
+/// for characters that deceive.
 pub(crate) fn window_said(
     options: &SanitizerOptions,
     characters: Unicode,
@@ -25,7 +25,7 @@ pub(crate) fn window_said(
     Ok(window_of(options.rows, options.columns, characters))
 }
 
-// The same, if the numbers are not too large.
+// Does the same, if the numbers are not too large.
 fn window_of(rows: u32, columns: u32, characters: Unicode) -> Option<Window>
     ensures { result ≡ window_numbered rows columns characters }
 {
@@ -36,7 +36,7 @@ fn window_of(rows: u32, columns: u32, characters: Unicode) -> Option<Window>
     }
 }
 
-// How many columns a number says; by 0 as many as is usual.
+// Returns how many columns a number says; by 0 as many as is usual.
 fn columns_of(number: u32) -> usize
     ensures { result ≡ columns_numbered number }
 {

@@ -20,7 +20,7 @@ use crate::screen_state::ScreenState;
 use crate::{DONE, NO_MEMORY, NOT_BEGUN};
 use std::alloc::Global;
 
-/// The work of `escape_stream_screen_begin` of `escape_c`.
+/// Does the work of `escape_stream_screen_begin` of `escape_c`.
 pub fn screen_begin(
     alloc: Global,
     screen: &mut InChunks,
@@ -40,7 +40,7 @@ pub fn screen_begin(
     }
 }
 
-/// The work of `escape_stream_screen_feed` of `escape_c`.
+/// Does the work of `escape_stream_screen_feed` of `escape_c`.
 pub fn screen_feed(alloc: Global, screen: &mut InChunks, bytes: &[u8]) -> u32
     ensures taken { (z : Size) (s : List ℕ) → ScreenHasConsumed z s screen.old
         → result ≡ DONE → ScreenTakes z s bytes.now screen.new }
@@ -52,7 +52,7 @@ pub fn screen_feed(alloc: Global, screen: &mut InChunks, bytes: &[u8]) -> u32
     change_kept!(alloc, screen, Screen(state), state.feed(bytes))
 }
 
-/// The work of `escape_stream_screen_state_of` of `escape_c`.
+/// Does the work of `escape_stream_screen_state_of` of `escape_c`.
 pub fn screen_state(alloc: Global, screen: &mut InChunks, row: &mut ScreenRow) -> u32
     ensures told { (z : Size) (s : List ℕ) → ScreenHasConsumed z s screen.old
         → result ≡ DONE → Tells z (shown_by z s) row.new }
@@ -63,7 +63,7 @@ pub fn screen_state(alloc: Global, screen: &mut InChunks, row: &mut ScreenRow) -
     change_kept!(alloc, screen, Screen(state), state.tell(row))
 }
 
-/// The work of `escape_stream_screen_cells` of `escape_c`.
+/// Does the work of `escape_stream_screen_cells` of `escape_c`.
 pub fn screen_cells(
     alloc: Global,
     screen: &mut InChunks,
@@ -80,7 +80,7 @@ pub fn screen_cells(
     change_kept!(alloc, screen, Screen(state), state.cells(row, out, needed))
 }
 
-/// The work of `escape_stream_screen_scrolled` of `escape_c`.
+/// Does the work of `escape_stream_screen_scrolled` of `escape_c`.
 pub fn screen_scrolled(
     alloc: Global,
     screen: &mut InChunks,
@@ -100,7 +100,7 @@ pub fn screen_scrolled(
     )
 }
 
-/// The work of `escape_stream_screen_text` of `escape_c`.
+/// Does the work of `escape_stream_screen_text` of `escape_c`.
 pub fn screen_text(
     alloc: Global,
     screen: &mut InChunks,
@@ -122,7 +122,7 @@ pub fn screen_text(
     )
 }
 
-/// The work of `escape_stream_screen_title` of `escape_c`.
+/// Does the work of `escape_stream_screen_title` of `escape_c`.
 pub fn screen_title(alloc: Global, screen: &mut InChunks, out: &mut [u8], needed: &mut usize) -> u32
     ensures shown { (z : Size) (s : List ℕ) → ScreenHasConsumed z s screen.old
         → result ≡ DONE → Puts (title_shown (shown_by z s)) out.old out.new needed.new }
@@ -138,7 +138,7 @@ pub fn screen_title(alloc: Global, screen: &mut InChunks, out: &mut [u8], needed
     )
 }
 
-/// The work of `escape_stream_screen_requests` of `escape_c`.
+/// Does the work of `escape_stream_screen_requests` of `escape_c`.
 pub fn screen_requests(
     alloc: Global,
     screen: &mut InChunks,
@@ -159,7 +159,7 @@ pub fn screen_requests(
     )
 }
 
-/// The work of `escape_stream_screen_link` of `escape_c`.
+/// Does the work of `escape_stream_screen_link` of `escape_c`.
 pub fn screen_link(
     alloc: Global,
     screen: &mut InChunks,
@@ -179,7 +179,7 @@ pub fn screen_link(
     )
 }
 
-/// The work of `escape_stream_screen_link_id` of `escape_c`.
+/// Does the work of `escape_stream_screen_link_id` of `escape_c`.
 pub fn screen_link_id(
     alloc: Global,
     screen: &mut InChunks,
@@ -199,7 +199,7 @@ pub fn screen_link_id(
     )
 }
 
-/// The work of `escape_stream_screen_changed` of `escape_c`.
+/// Does the work of `escape_stream_screen_changed` of `escape_c`.
 pub fn screen_changed(alloc: Global, screen: &mut InChunks, out: &mut [u8]) -> u32
     ensures shown { (z : Size) (s : List ℕ) → ScreenHasConsumed z s screen.old
         → result ≡ DONE → ScreenHasConsumed z s screen.new }
@@ -209,7 +209,7 @@ pub fn screen_changed(alloc: Global, screen: &mut InChunks, out: &mut [u8]) -> u
     change_kept!(alloc, screen, Screen(state), state.look(alloc, out))
 }
 
-/// The work of `escape_stream_screen_end` of `escape_c`.
+/// Does the work of `escape_stream_screen_end` of `escape_c`.
 pub fn screen_end(alloc: Global, screen: &mut InChunks)
     ensures { IsEnded screen.new }
 {

@@ -5,32 +5,33 @@ ghost use Rattle.esc_calls.specs.Screens.{Tells};
 #[repr(C)]
 #[derive(Clone, Copy)]
 pub struct ScreenRow {
-    /// How many rows were scrolled off its top in all.
+    /// Says how many rows were scrolled off its top in all.
     pub scrolled: u64,
-    /// How many of these are kept: the last ones.
+    /// Says how many of these are kept: the last ones.
     pub kept: usize,
-    /// How many requests the last chunk made.
+    /// Says how many requests the last chunk made.
     pub requests: usize,
-    /// How many links it has.
+    /// Says how many links it has.
     pub links: usize,
-    /// How many columns it has.
+    /// Says how many columns it has.
     pub columns: u16,
-    /// How many rows it has.
+    /// Says how many rows it has.
     pub rows: u16,
     /// The row of the cursor, from 0 on.
     pub cursor_row: u16,
     /// The column of the cursor, from 0 on.
     pub cursor_column: u16,
-    /// Whether the last column was just written, so that the next character goes to the next row.
+    /// Says whether the last column was just written, so that the next character goes to the next
+    /// row.
     pub pending: bool,
-    /// Whether the cursor is shown (DECTCEM).
+    /// Says whether the cursor is shown (DECTCEM).
     pub shown: bool,
-    /// Whether the alternate screen is seen.
+    /// Says whether the alternate screen is seen.
     pub alternate: bool,
-    /// Whether all cells are inverse (DECSCNM).
+    /// Says whether all cells are inverse (DECSCNM).
     pub reversed: bool,
-    /// Whether a program is in the middle of an update (mode 2026).
+    /// Says whether a program is in the middle of an update (mode 2026).
     pub synchronized: bool,
-    /// Whether its window has a title.
+    /// Says whether its window has a title.
     pub has_title: bool,
 }

@@ -29,8 +29,8 @@ pub struct ScreenState {
 }
 
 impl ScreenState {
-    /// A screen of so many columns and rows at the beginning of a stream. At most `most` of the
-    /// rows that are scrolled off are kept.
+    /// Returns a screen of so many columns and rows at the beginning of a stream. It keeps at most
+    /// `most` of the rows that are scrolled off.
     ///
     /// The error is that a request for memory was refused.
     pub(crate) fn new(
@@ -177,7 +177,7 @@ impl ScreenState {
         }
     }
 
-    /// The same for the id of a link, which may have none.
+    /// Does the same for the id of a link, which may have none.
     pub(crate) fn id(&self, number: usize, out: &mut [u8]) -> usize {
         match self.terminal.styles() {
             Some(styles) => put(id_of(styles, number).as_bytes(), out),

@@ -19,7 +19,7 @@ pub struct Scrollback {
 }
 
 impl Scrollback {
-    /// No row. So many of those that come are kept.
+    /// Returns an empty scrollback, which keeps at most `most` rows.
     pub(crate) fn new(alloc: Global, most: usize) -> Scrollback {
         Scrollback {
             alloc,
@@ -30,22 +30,23 @@ impl Scrollback {
         }
     }
 
-    /// No row, and none is kept. Takes no memory.
+    /// Returns an empty scrollback, which keeps no row. Takes no memory.
     pub(crate) fn none(&self) -> Scrollback {
         Scrollback::new(self.alloc, 0)
     }
 
-    /// How many rows came.
+    /// Returns how many rows came.
     pub(crate) fn count(&self) -> u64 {
         self.count
     }
 
-    /// How many are kept.
+    /// Returns how many are kept.
     pub(crate) fn len(&self) -> usize {
         self.rows.len()
     }
 
-    /// The cells of one of them, from the first that is kept on; none if there is no such row.
+    /// Returns the cells of one of them, from the first that is kept on; none if there is no such
+    /// row.
     pub(crate) fn row(&self, at: usize) -> &[Cell] {
         let after_first = self.rows.len().saturating_sub(self.first);
         let place = if at < after_first {

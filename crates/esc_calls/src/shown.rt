@@ -8,7 +8,7 @@ use esc_values::Text;
 use std::alloc::{AllocError, Global};
 use std::fmt::Display;
 
-/// The text that a value is displayed as.
+/// Returns the text that a value is displayed as.
 #[inline]
 pub(crate) fn display<T: Display>(alloc: Global, value: &T) -> Result<Text, AllocError>
     ensures text { IfSome (T.output value.now) (λ t. IfOk result (λ x. x ≡ t)) }
@@ -19,7 +19,7 @@ pub(crate) fn display<T: Display>(alloc: Global, value: &T) -> Result<Text, Allo
     Ok(text)
 }
 
-/// A text with `ESC \` after it.
+/// Returns a text with `ESC \` after it.
 pub(crate) fn ended(text: Text) -> Result<Text, AllocError>
     ensures text { IfOk result (λ t. t ≡ text ++ string_end) }
     ensures refused { OnErr result (Refused Global) }

@@ -11,7 +11,7 @@ use esc_sixel::{Sixel, SixelBuilder, SixelData};
 use flat_values::SixelRow;
 use std::alloc::{AllocError, Global};
 
-/// The work of `escape_stream_read_sixel` of `escape_c`.
+/// Does the work of `escape_stream_read_sixel` of `escape_c`.
 pub fn read_sixel(
     alloc: Global,
     params: &[i64],
@@ -36,7 +36,7 @@ pub fn read_sixel(
     }
 }
 
-// The image.
+// Returns the image.
 fn read(alloc: Global, params: &[i64], text: &[u8]) -> Result<Sixel, AllocError>
     ensures ok { IfOk result (λ s. s ≡ sixel_in params.now text.now) }
     ensures refused { OnErr result (Refused Global) }

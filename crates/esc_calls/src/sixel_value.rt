@@ -19,14 +19,14 @@ pub struct SixelValue {
     pub width: u32,
     /// The height in pixels in the same way.
     pub height: u32,
-    /// Whether the header has a horizontal grid size.
+    /// Says whether the header has a horizontal grid size.
     pub has_grid_size: bool,
-    /// Whether raster attributes gave a width.
+    /// Says whether raster attributes gave a width.
     pub has_pixel_width: bool,
-    /// Whether raster attributes gave a height.
+    /// Says whether raster attributes gave a height.
     pub has_pixel_height: bool,
-    /// Whether pixels of 0 leave the old pixels.
+    /// Says whether pixels of 0 leave the old pixels.
     pub background_is_transparent: bool,
-    /// How many items its data has.
+    /// Says how many items its data has.
     pub item_count: usize,
 }

@@ -1,4 +1,4 @@
-//! Which sixel images can be written.
+//! This module says which sixel images can be written.
 ghost use Rattle.std.specs.Prelude.{◌≡◌, ◌<◌, ◌↔◌, IsTrue};
 ghost use Rattle.esc_sixel.specs.Meaning.{percent};
 ghost use Rattle.esc_sixel.specs.Texts.{least_percent};
@@ -6,7 +6,7 @@ ghost use Rattle.esc_sixel.specs.Writable.{AreSizes, AreWritableData, IsChannel,
 
 use esc_sixel::{Sixel, SixelData};
 
-// Whether the text of an image reads back as it.
+// Returns whether the text of an image reads back as it.
 pub(crate) fn is_writable(sixel: &Sixel) -> bool
     ensures { IsTrue result ↔ IsWritable sixel.now }
 {
@@ -17,14 +17,14 @@ pub(crate) fn is_writable(sixel: &Sixel) -> bool
         && are_writable(sixel.content.as_slice())
 }
 
-// Whether a number is not negative.
+// Returns whether a number is not negative.
 fn is_natural(number: i64) -> bool
     ensures { IsTrue result ↔ IsNatural number }
 {
     0 <= number
 }
 
-// Whether it is so, if there is one.
+// Returns whether it is so, if there is one.
 fn is_grid(number: Option<i64>) -> bool
     ensures { IsTrue result ↔ IsGrid number }
 {
@@ -34,7 +34,7 @@ fn is_grid(number: Option<i64>) -> bool
     }
 }
 
-// Whether there is no size, or both are there and not too large.
+// Returns whether there is no size, or both are there and not too large.
 fn are_sizes(width: Option<u32>, height: Option<u32>) -> bool
     ensures { IsTrue result ↔ AreSizes width height }
 {
@@ -45,7 +45,7 @@ fn are_sizes(width: Option<u32>, height: Option<u32>) -> bool
     }
 }
 
-// Whether each item of data can be written.
+// Returns whether each item of data can be written.
 fn are_writable(items: &[SixelData]) -> bool
     ensures { IsTrue result ↔ AreWritableData items.now }
 {
@@ -57,7 +57,7 @@ fn are_writable(items: &[SixelData]) -> bool
     true
 }
 
-// Whether it has pixels of six bits, and channels of percentages.
+// Returns whether it has pixels of six bits, and channels of percentages.
 fn is_writable_item(item: SixelData) -> bool
     ensures { IsTrue result ↔ IsWritableData item }
 {
@@ -78,14 +78,14 @@ fn is_writable_item(item: SixelData) -> bool
     }
 }
 
-// Whether a channel of a colour is read of a percentage.
+// Returns whether a channel of a colour is read of a percentage.
 fn is_channel(channel: u8) -> bool
     ensures { IsTrue result ↔ IsChannel channel }
 {
     channel == of_percentage(percentage(channel))
 }
 
-// The least percentage that is read as no less than a channel.
+// Returns the least percentage that is read as no less than a channel.
 fn percentage(channel: u8) -> u32
     ensures is { result ≡ least_percent channel }
     ensures few { result < 101 }
@@ -93,7 +93,7 @@ fn percentage(channel: u8) -> u32
     (100 * u32::from(channel) + 254) / 255
 }
 
-// The channel of a percentage.
+// Returns the channel of a percentage.
 fn of_percentage(percentage: u32) -> u8
     requires { percentage < 101 }
     ensures { result ≡ percent percentage }

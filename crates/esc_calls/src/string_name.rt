@@ -8,14 +8,14 @@ use crate::function::byte_of;
 use crate::string_row::{StringRow, note};
 use string_commands::{application, command, device, named, row_at};
 
-/// The work of `escape_stream_osc_function` of `escape_c`.
+/// Does the work of `escape_stream_osc_function` of `escape_c`.
 pub fn osc_function(text: &[u8], out: &mut StringRow) -> bool
     ensures { SaysString (place_of_command text.now) out.new result }
 {
     note(command(text), out)
 }
 
-/// The work of `escape_stream_dcs_function` of `escape_c`.
+/// Does the work of `escape_stream_dcs_function` of `escape_c`.
 pub fn dcs_function(
     marks: (u8, u8),
     last: u8,
@@ -34,21 +34,21 @@ pub fn dcs_function(
     )
 }
 
-/// The work of `escape_stream_apc_function` of `escape_c`.
+/// Does the work of `escape_stream_apc_function` of `escape_c`.
 pub fn apc_function(text: &[u8], out: &mut StringRow) -> bool
     ensures { SaysString (place_of_application text.now) out.new result }
 {
     note(application(text), out)
 }
 
-/// The work of `escape_stream_string_row` of `escape_c`.
+/// Does the work of `escape_stream_string_row` of `escape_c`.
 pub fn string_row(row: usize, out: &mut StringRow) -> bool
     ensures { SaysString (place_below row) out.new result }
 {
     note(row_at(row), out)
 }
 
-/// The work of `escape_stream_string_named` of `escape_c`.
+/// Does the work of `escape_stream_string_named` of `escape_c`.
 pub fn string_named(name: &[u8], out: &mut StringRow) -> bool
     ensures { SaysString (place_named name.now) out.new result }
 {

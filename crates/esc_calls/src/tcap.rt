@@ -10,7 +10,7 @@ use flat_values::{FieldRow, Fields};
 use std::alloc::{AllocError, Global};
 use xtgettcap::GetTcapBuilder;
 
-/// The work of `escape_stream_read_tcap` of `escape_c`.
+/// Does the work of `escape_stream_read_tcap` of `escape_c`.
 pub fn read_tcap(
     alloc: Global,
     text: &[u8],
@@ -24,7 +24,7 @@ pub fn read_tcap(
     put_read(read(alloc, text), value, fields, out)
 }
 
-// The query, and its names.
+// Returns the query, and its names.
 fn read(alloc: Global, text: &[u8]) -> Result<(QueryValue, Fields), AllocError>
     ensures value { IfOk result (λ r. IsQuery text.now r.0) }
     ensures fields { IfOk result (λ r. r.1 ≡ query_table text.now) }
@@ -38,7 +38,7 @@ fn read(alloc: Global, text: &[u8]) -> Result<(QueryValue, Fields), AllocError>
     Ok((value, fields))
 }
 
-/// The names of the query, as fields.
+/// Returns the names of the query, as fields.
 pub(crate) fn names_of_query(alloc: Global, text: &[u8]) -> Result<Fields, AllocError>
     ensures ok { IfOk result (λ f. f ≡ query_table text.now) }
     ensures refused { OnErr result (Refused Global) }

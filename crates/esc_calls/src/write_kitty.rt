@@ -19,7 +19,7 @@ use esc_values::Text;
 use flat_values::{FieldRow, has_image, image_of};
 use std::alloc::{AllocError, Global};
 
-/// The work of `escape_stream_write_kitty` of `escape_c`.
+/// Does the work of `escape_stream_write_kitty` of `escape_c`.
 pub fn write_kitty(
     alloc: Global,
     kind: u32,
@@ -34,7 +34,7 @@ pub fn write_kitty(
     put_text(written(alloc, kind, fields, text), out, needed)
 }
 
-// The text of the image, if it reads back as it.
+// Returns the text of the image, if it reads back as it.
 fn written(alloc: Global, kind: u32, fields: &[FieldRow], text: &[u8]) -> Result<Text, Refusal>
     ensures text { IfOk result (IsText kind (fields.now, text.now)) }
     ensures refused { IfErr result (λ e. IsRefusal kind (fields.now, text.now) (status_of e)) }
@@ -46,7 +46,7 @@ fn written(alloc: Global, kind: u32, fields: &[FieldRow], text: &[u8]) -> Result
     Ok(ended(written)?)
 }
 
-// The text of the image, without its end.
+// Returns the text of the image, without its end.
 fn text_of(alloc: Global, kind: u32, fields: &[FieldRow], text: &[u8]) -> Result<Text, Refusal>
     ensures text { IfOk result (λ t. (i : KittyImage Global)
         × HasImage kind (fields.now, text.now) (Some i) × (t ≡ image_text i)) }
@@ -58,28 +58,28 @@ fn text_of(alloc: Global, kind: u32, fields: &[FieldRow], text: &[u8]) -> Result
     Ok(display(alloc, &image)?)
 }
 
-// The rest after `ESC _`.
+// Returns the rest after `ESC _`.
 fn body_in(text: &[u8]) -> &[u8]
     ensures { result.now ≡ drop 2 text.now }
 {
     &text[text.len().min(2)..]
 }
 
-// Whether a byte is one that an application program command keeps.
+// Returns whether a byte is one that an application program command keeps.
 fn is_kept(byte: &u8) -> bool
     ensures { result ≡ is_kept byte.now }
 {
     0x20 <= *byte && *byte <= 0x7f
 }
 
-// Whether each is one.
+// Returns whether each is one.
 fn are_kept(bytes: &[u8]) -> bool
     ensures { result ≡ list_all is_kept bytes.now }
 {
     bytes.iter().all(is_kept)
 }
 
-// Whether a body is of such bytes, and is an image of this kind that has these fields.
+// Returns whether a body is of such bytes, and is an image of this kind that has these fields.
 fn is_back(
     alloc: Global,
     body: &[u8],

@@ -19,7 +19,7 @@ use esc_values::Text;
 use flat_values::{FieldRow, command_of, has_fields};
 use std::alloc::{AllocError, Global};
 
-/// The work of `escape_stream_write_osc` of `escape_c`.
+/// Does the work of `escape_stream_write_osc` of `escape_c`.
 pub fn write_osc(
     alloc: Global,
     kind: u32,
@@ -34,7 +34,7 @@ pub fn write_osc(
     put_text(written(alloc, kind, fields, text), out, needed)
 }
 
-// The text of the command, if it reads back as it.
+// Returns the text of the command, if it reads back as it.
 fn written(alloc: Global, kind: u32, fields: &[FieldRow], text: &[u8]) -> Result<Text, Refusal>
     ensures text { IfOk result (IsText kind (fields.now, text.now)) }
     ensures refused { IfErr result (λ e. IsRefusal kind (fields.now, text.now) (status_of e)) }
@@ -46,7 +46,7 @@ fn written(alloc: Global, kind: u32, fields: &[FieldRow], text: &[u8]) -> Result
     Ok(written)
 }
 
-// The text of the command.
+// Returns the text of the command.
 fn text_of(alloc: Global, kind: u32, fields: &[FieldRow], text: &[u8]) -> Result<Text, Refusal>
     ensures text { IfOk result (λ t. (c : OperatingSystemCommand Global)
         × Has kind (fields.now, text.now) c × (t ≡ command_text c)) }
@@ -58,7 +58,7 @@ fn text_of(alloc: Global, kind: u32, fields: &[FieldRow], text: &[u8]) -> Result
     Ok(display(alloc, &command)?)
 }
 
-// The text between `ESC ]` and `ESC \`.
+// Returns the text between `ESC ]` and `ESC \`.
 fn inner(text: &[u8]) -> &[u8]
     ensures { (t : List ℕ) → text.now ≡ framed_text t → result.now ≡ t }
 {
@@ -67,7 +67,7 @@ fn inner(text: &[u8]) -> &[u8]
     &text[start..end]
 }
 
-// Whether a text is clear, and means a command of this kind that has these fields.
+// Returns whether a text is clear, and means a command of this kind that has these fields.
 fn is_back(
     alloc: Global,
     inner: &[u8],

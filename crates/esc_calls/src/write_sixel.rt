@@ -18,7 +18,7 @@ use esc_values::{Items, Text};
 use flat_values::{SixelRow, sixel_items_of};
 use std::alloc::{AllocError, Global};
 
-/// The work of `escape_stream_write_sixel` of `escape_c`.
+/// Does the work of `escape_stream_write_sixel` of `escape_c`.
 pub fn write_sixel(
     alloc: Global,
     value: &SixelValue,
@@ -32,7 +32,7 @@ pub fn write_sixel(
     put_text(written(alloc, value, rows), out, needed)
 }
 
-// The text of the image, if it reads back as it.
+// Returns the text of the image, if it reads back as it.
 fn written(alloc: Global, value: &SixelValue, rows: &[SixelRow]) -> Result<Text, Refusal>
     ensures text { IfOk result (IsText value.now rows.now) }
     ensures refused { IfErr result (λ e. IsRefusal value.now rows.now (status_of e)) }
@@ -46,7 +46,7 @@ fn written(alloc: Global, value: &SixelValue, rows: &[SixelRow]) -> Result<Text,
     Ok(ended(display(alloc, &sixel)?)?)
 }
 
-// The image that has this value and these rows, if there is one.
+// Returns the image that has this value and these rows, if there is one.
 fn image_of(
     alloc: Global,
     value: &SixelValue,
@@ -66,7 +66,7 @@ fn image_of(
     }
 }
 
-// Whether each absent number is 0.
+// Returns whether each absent number is 0.
 fn are_given(value: &SixelValue) -> bool
     ensures { IsTrue result ↔ AreGiven value.now }
 {
@@ -75,21 +75,21 @@ fn are_given(value: &SixelValue) -> bool
         && is_size(value.has_pixel_height, value.pixel_height)
 }
 
-// Whether a horizontal grid size is there, or is 0.
+// Returns whether a horizontal grid size is there, or is 0.
 fn is_grid(is_there: bool, number: i64) -> bool
     ensures { IsTrue result ↔ IsGiven (pos 0) is_there number }
 {
     is_there || number == 0
 }
 
-// Whether a size is there, or is 0.
+// Returns whether a size is there, or is 0.
 fn is_size(is_there: bool, number: u32) -> bool
     ensures { IsTrue result ↔ IsGiven 0 is_there number }
 {
     is_there || number == 0
 }
 
-// The image of a value that has this data.
+// Returns the image of a value that has this data.
 fn image(value: &SixelValue, content: Items<SixelData>) -> Sixel
     ensures content { result.content ≡ content }
     ensures header { AreGiven value.now → IsHeader result value.now }
@@ -105,14 +105,14 @@ fn image(value: &SixelValue, content: Items<SixelData>) -> Sixel
     }
 }
 
-// A horizontal grid size, if it is there.
+// Returns a horizontal grid size, if it is there.
 fn grid(is_there: bool, number: i64) -> Option<i64>
     ensures { result ≡ optional is_there number }
 {
     if is_there { Some(number) } else { None }
 }
 
-// A size, if it is there.
+// Returns a size, if it is there.
 fn size(is_there: bool, number: u32) -> Option<u32>
     ensures { result ≡ optional is_there number }
 {

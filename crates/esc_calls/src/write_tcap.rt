@@ -15,7 +15,7 @@ use flat_values::{FieldRow, are_those, names_of};
 use std::alloc::{AllocError, Global};
 use xtgettcap::TcapQuery;
 
-/// The work of `escape_stream_write_tcap` of `escape_c`.
+/// Does the work of `escape_stream_write_tcap` of `escape_c`.
 pub fn write_tcap(
     alloc: Global,
     fields: &[FieldRow],
@@ -29,7 +29,7 @@ pub fn write_tcap(
     put_text(written(alloc, fields, text), out, needed)
 }
 
-// The text of the query, if it reads back as it.
+// Returns the text of the query, if it reads back as it.
 fn written(alloc: Global, fields: &[FieldRow], text: &[u8]) -> Result<Text, Refusal>
     ensures text { IfOk result (IsText (fields.now, text.now)) }
     ensures refused { IfErr result (λ e. IsRefusal (fields.now, text.now) (status_of e)) }
@@ -44,14 +44,14 @@ fn written(alloc: Global, fields: &[FieldRow], text: &[u8]) -> Result<Text, Refu
     Ok(ended(written)?)
 }
 
-// The rest after `ESC P + q`.
+// Returns the rest after `ESC P + q`.
 fn names_in(text: &[u8]) -> &[u8]
     ensures { result.now ≡ drop 4 text.now }
 {
     &text[text.len().min(4)..]
 }
 
-// Whether data asks for the names that have these fields.
+// Returns whether data asks for the names that have these fields.
 fn is_back(
     alloc: Global,
     inner: &[u8],

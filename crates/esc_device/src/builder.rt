@@ -1,4 +1,4 @@
-//! How a short device control is read, byte by byte.
+//! This module says how a short device control is read, byte by byte.
 ghost use Rattle.std.specs.Prelude.{◌≡◌, ◌<◌, ◌++◌, ◌∷◌, [], ℕ, ℤ, List, IfOk, OnOk, OnErr, length, take};
 ghost use Rattle.std.specs.List.{FoldsTo};
 ghost use Rattle.fallible_alloc.specs.Refusals.{Refused};
@@ -16,8 +16,8 @@ pub struct ShortBuilder<A: Allocator = Global> {
 }
 
 impl<A: Allocator + Copy> ShortBuilder<A> {
-    /// A builder of a control with copies of these parameters and intermediates and with this final
-    /// byte, before any data. The error is that memory was refused.
+    /// Returns a builder of a control with copies of these parameters and intermediates and with
+    /// this final byte, before any data. The error is that memory was refused.
     #[tactic(auto, unfolding(crate::specs::Leads::LeadsShort))]
     pub fn new(
         alloc: A,
@@ -40,8 +40,8 @@ impl<A: Allocator + Copy> ShortBuilder<A> {
 }
 
 impl<A: Allocator> ShortBuilder<A> {
-    /// One more byte of the data. The error is that memory was refused, and the builder stays as it
-    /// was.
+    /// Takes one more byte of the data. The error is that memory was refused, and the builder stays
+    /// as it was.
     #[tactic(auto, unfolding(crate::specs::Leads::LeadsShort))]
     pub fn push(&mut self, byte: u8) -> Result<(), AllocError>
         ensures ok { (ps : List ℤ) (is : List ℕ) (f : ℕ) (d : List ℕ)
@@ -53,8 +53,8 @@ impl<A: Allocator> ShortBuilder<A> {
         self.short.content.push(byte)
     }
 
-    /// These bytes of the data, with the effect of a `push` of each. The error is that memory was
-    /// refused; the builder has then taken those before the byte that needed it, and no more.
+    /// Takes these bytes of the data, with the effect of a `push` of each. The error is that memory
+    /// was refused; the builder has then taken those before the byte that needed it, and no more.
     pub fn push_run(&mut self, bytes: &[u8]) -> Result<(), AllocError>
         ensures each { OnOk result (FoldsTo Pushes self.old bytes.now self.new) }
         ensures ok { (ps : List ℤ) (is : List ℕ) (f : ℕ) (d : List ℕ)
@@ -72,7 +72,7 @@ impl<A: Allocator> ShortBuilder<A> {
         Ok(())
     }
 
-    /// The control of the header and all bytes. Takes no memory.
+    /// Returns the control of the header and all bytes. Takes no memory.
     #[tactic(auto, unfolding(crate::specs::Leads::LeadsShort))]
     pub fn finish(self) -> ShortDeviceControl<A>
         ensures { (ps : List ℤ) (is : List ℕ) (f : ℕ) (d : List ℕ) → LeadsShort ps is f d self

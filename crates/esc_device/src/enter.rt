@@ -23,13 +23,13 @@ pub struct EnterDeviceControlMode<A: Allocator = Global> {
     /// The intermediates: one from 3C to 3F, if the header begins with it, and those from 20 to 2F
     /// (hexadecimal).
     pub intermediates: Items<u8, A>,
-    /// Whether the header has more than two intermediates; only the first two are kept.
+    /// Says whether the header has more than two intermediates; only the first two are kept.
     pub ignored_extra_intermediates: bool,
 }
 
 impl<A: Allocator + Copy> EnterDeviceControlMode<A> {
-    /// The mode of a header with this final byte and copies of these parameters and intermediates.
-    /// The error is that memory was refused.
+    /// Returns the mode of a header with this final byte and copies of these parameters and
+    /// intermediates. The error is that memory was refused.
     pub fn from_header(
         alloc: A,
         byte: u8,

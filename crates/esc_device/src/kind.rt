@@ -16,10 +16,10 @@ pub enum StringKind {
 }
 
 impl StringKind {
-    /// The string that a header with this final byte and these intermediates opens: with `q` a
-    /// sixel image if it has no intermediates, a termcap query if `+` is the only one, and a short
-    /// control if `$` is. Every other header, and each with intermediates left out, enters a mode.
-    /// Takes no memory.
+    /// Returns the string that a header with this final byte and these intermediates opens: with
+    /// `q` a sixel image if it has no intermediates, a termcap query if `+` is the only one, and a
+    /// short control if `$` is. Every other header, and each with intermediates left out, enters a
+    /// mode. Takes no memory.
     pub fn of_header(
         byte: u8,
         intermediates: &[u8],

@@ -7,7 +7,7 @@ ghost use Rattle.esc_device.specs.Texts.{params_text};
 use std::fmt;
 use std::fmt::Display;
 
-// With `;` between them.
+// The numbers print with `;` between them.
 #[derive(Clone, Copy)]
 pub(crate) struct Numbers<'a>(pub(crate) &'a [i64]);
 
@@ -23,7 +23,7 @@ impl Display for Numbers<'_> {
     }
 }
 
-// With `;` before each.
+// Writes the numbers with `;` before each.
 fn write_more<W: fmt::Write>(rest: &[i64], f: &mut fmt::Formatter<W>) -> fmt::Result
     ensures { DisplaysOnOk W.write_str_gives f.old result
         (Some (flat_map (λ n. 0x3b ∷ signed_decimal n) rest.now)) f.new }

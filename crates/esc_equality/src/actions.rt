@@ -7,7 +7,7 @@ use esc_actions::{Action, ControlCode};
 use esc_sequences::CSI;
 use std::alloc::Allocator;
 
-/// Whether two control codes are the same.
+/// Returns whether two control codes are the same.
 #[tactic(auto, using(crate::proofs::CsisSame::codes))]
 pub fn same_control_code(a: &ControlCode, b: &ControlCode) -> bool
     ensures { IsTrue result ↔ (a.now ≡ b.now) }
@@ -15,14 +15,14 @@ pub fn same_control_code(a: &ControlCode, b: &ControlCode) -> bool
     a == b
 }
 
-/// Whether two control sequences are the same.
+/// Returns whether two control sequences are the same.
 pub fn same_csi<A: Allocator>(a: &CSI<A>, b: &CSI<A>) -> bool
     ensures { IsTrue result ↔ (csi_value a.now ≡ csi_value b.now) }
 {
     a == b
 }
 
-/// Whether two actions are the same.
+/// Returns whether two actions are the same.
 pub fn same_action<A: Allocator>(a: &Action<A>, b: &Action<A>) -> bool
     ensures { IsTrue result ↔ (value_of a.now ≡ value_of b.now) }
 {

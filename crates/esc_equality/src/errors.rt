@@ -4,14 +4,14 @@ ghost use Rattle.std.specs.Prelude.{◌≡◌, ◌↔◌, IsTrue};
 use esc_frame::ParseError;
 use esc_values::Error;
 
-/// Whether two errors of a reading are the same.
+/// Returns whether two errors of a reading are the same.
 pub fn same_error(a: &Error, b: &Error) -> bool
     ensures { IsTrue result ↔ (a.now ≡ b.now) }
 {
     a == b
 }
 
-/// Whether two errors of a parser are the same.
+/// Returns whether two errors of a parser are the same.
 pub fn same_parse_error(a: &ParseError, b: &ParseError) -> bool
     ensures { IsTrue result ↔ (a.now ≡ b.now) }
 {

@@ -69,7 +69,7 @@ abbrev pub resumed_closed : {A : Type 0} → Bool → Guard → ℕ → (Value A
 resumed_closed {A} k u limit admits s =
     closed_by_lines_as {A = A} u limit admits (resumed k u limit admits s)
 
--- lines that have ended, none of which leaves renditions on, if none were on before them
+-- holds of lines that have ended, none of which leaves renditions on, if none were on before them
 abbrev pub AreQuiet : {A : Type 0} → Guard → ℕ → (Value A → Bool) → List (List ℕ) → Type 0
 AreQuiet u limit admits [] = Unit {0}
 AreQuiet u limit admits (l ∷ ls) =

@@ -26,16 +26,16 @@ pub trait Admit<A: Allocator> {
     // the values that it admits
     ghost admits: { Self → Value A → Bool };
 
-    /// Whether the action may pass. It is asked about each action once, in order, but for the
-    /// characters of a run that [`admits_text`](Admit::admits_text) lets through, and for actions
-    /// that [`admits_sequence`](Admit::admits_sequence) or
+    /// Returns whether the action may pass. It is asked about each action once, in order, but for
+    /// the characters of a run that [`admits_text`](Admit::admits_text) lets through, and for
+    /// actions that [`admits_sequence`](Admit::admits_sequence) or
     /// [`admits_command`](Admit::admits_command) decides. At the end of a stream, and by lines at
     /// the end of a line, that leaves margins or a state saved with the cursor, it is asked about
     /// DECSC and DECRC, since these would restore it.
     fn admits(&self, action: &Action<A>) -> bool
         ensures { result ≡ admits self.now (value_of action.now) };
 
-    /// The decisions about all actions of a kind. It is not asked about these, and
+    /// Returns the decisions about all actions of a kind. It is not asked about these, and
     /// [`leaves_out`](Admit::leaves_out) is not shown those that do not pass. By default there are
     /// none, and it is asked about each.
     #[inline]
@@ -45,8 +45,8 @@ pub trait Admit<A: Allocator> {
         Known::nothing()
     }
 
-    /// Whether each character of a run of text, 20 to 7F and one byte each, may pass. If it returns
-    /// false, it is asked about each of them by itself; so it does by default.
+    /// Returns whether each character of a run of text, 20 to 7F and one byte each, may pass. If it
+    /// returns false, it is asked about each of them by itself; so it does by default.
     #[inline]
     fn admits_text(&self, _text: &[u8]) -> bool
         ensures { IsTrue result → list_all (λ c. admits self.now (print c)) _text.now ≡ true }
@@ -54,7 +54,7 @@ pub trait Admit<A: Allocator> {
         false
     }
 
-    /// The same for a run of characters as UTF-8.
+    /// Does the same for a run of characters as UTF-8.
     #[inline]
     fn admits_str(&self, _text: &str) -> bool
         ensures { IsTrue result → list_all (λ c. admits self.now (print c))
@@ -63,10 +63,10 @@ pub trait Admit<A: Allocator> {
         false
     }
 
-    /// Whether the actions of a control sequence with all its parameters pass: true if each is
-    /// admitted, and false if none is and [`leaves_out`](Admit::leaves_out) need not be shown them.
-    /// They are not made then. If it returns `None`, each is made and asked about by itself; so it
-    /// does by default.
+    /// Returns whether the actions of a control sequence with all its parameters pass: true if each
+    /// is admitted, and false if none is and [`leaves_out`](Admit::leaves_out) need not be shown
+    /// them. They are not made then. If it returns `None`, each is made and asked about by itself;
+    /// so it does by default.
     #[inline]
     fn admits_sequence(&self, _params: &[CsiParam], _control: u8) -> Option<bool>
         ensures passes { result ≡ Some true → list_all (λ c. admits self.now (csi c))
@@ -77,7 +77,7 @@ pub trait Admit<A: Allocator> {
         None
     }
 
-    /// The same for the operating system command of this text, whose parts are between `;`.
+    /// Does the same for the operating system command of this text, whose parts are between `;`.
     #[inline]
     fn admits_command(&self, _text: &[u8]) -> Option<bool>
         ensures { IfSome result (λ b.
@@ -86,8 +86,8 @@ pub trait Admit<A: Allocator> {
         None
     }
 
-    /// Whether an image, of kitty's protocol or sixel, may be admitted. If it returns false, as it
-    /// does not by default, none is made.
+    /// Returns whether an image, of kitty's protocol or sixel, may be admitted. If it returns
+    /// false, as it does not by default, none is made.
     #[inline]
     fn admits_images(&self) -> bool
         ensures { result ≡ false → (v : Value A) → is_image v ≡ true → admits self.now v ≡ false }
@@ -103,8 +103,8 @@ pub trait Admit<A: Allocator> {
     fn leaves_out(&self, _action: &Action<A>) {}
 }
 
-/// Whether an action that a parser handed out passes a filter of this policy: it can be written by
-/// itself, and is admitted.
+/// Returns whether an action that a parser handed out passes a filter of this policy: it can be
+/// written by itself, and is admitted.
 #[inline]
 pub fn passes<A: Allocator, P: Admit<A>>(policy: &P, action: &Action<A>) -> bool
     ensures { result ≡ passes (P.admits policy.now) (value_of action.now) }
@@ -112,7 +112,7 @@ pub fn passes<A: Allocator, P: Admit<A>>(policy: &P, action: &Action<A>) -> bool
     is_whole(action) && policy.admits(action)
 }
 
-// Whether an action that a parser handed out can be written by itself.
+// Returns whether an action that a parser handed out can be written by itself.
 fn is_whole<A: Allocator>(action: &Action<A>) -> bool
     ensures { result ≡ is_whole (value_of action.now) }
 {
@@ -130,7 +130,7 @@ fn is_whole<A: Allocator>(action: &Action<A>) -> bool
     }
 }
 
-// Whether it is a short control without a byte A0 to FF.
+// Returns whether it is a short control without a byte A0 to FF.
 fn is_plain_short<A: Allocator>(mode: &DeviceControlMode<A>) -> bool
     ensures { result ≡ is_whole (device_value mode.now) }
 {

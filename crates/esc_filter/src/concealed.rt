@@ -5,8 +5,8 @@ ghost use Rattle.esc_filter.specs.Concealed.{begins_color, begins_part, breaks_o
 
 use esc_values::CsiParam;
 
-// Whether one of the renditions with these parameters may conceal text: 8 (ECMA-48, 8.3.117), if it
-// is not a number of a colour, as in `38;5;8`, and no part of an item, as in `4:8`.
+// Returns whether one of the renditions with these parameters may conceal text: 8 (ECMA-48,
+// 8.3.117), if it is not a number of a colour, as in `38;5;8`, and no part of an item, as in `4:8`.
 #[tactic(auto, using(crate::proofs::GivingBack::ConcealedFrom::without_first))]
 pub(crate) fn conceals(params: &[CsiParam]) -> bool
     ensures { result ≡ conceals params.now }
@@ -24,22 +24,22 @@ pub(crate) fn conceals(params: &[CsiParam]) -> bool
     false
 }
 
-// Whether the number 8 is among them.
+// Returns whether the number 8 is among them.
 fn has_conceal(params: &[CsiParam]) -> bool
     ensures { result ≡ list_any is_conceal params.now }
 {
     params.iter().any(is_conceal)
 }
 
-// Whether it is the number 8.
+// Returns whether it is the number 8.
 fn is_conceal(param: &CsiParam) -> bool
     ensures { result ≡ is_conceal param.now }
 {
     *param == CsiParam::Integer(8)
 }
 
-// Whether it is the number of a colour of characters, of their background or of a line, which
-// others follow.
+// Returns whether it is the number of a colour of characters, of their background or of a line,
+// which others follow.
 fn begins_color(param: &CsiParam) -> bool
     ensures { result ≡ begins_color param.now }
 {
@@ -48,15 +48,15 @@ fn begins_color(param: &CsiParam) -> bool
         || *param == CsiParam::Integer(58)
 }
 
-// Whether it begins a colour that is not whole, so that terminals differ in which numbers they take
-// for it.
+// Returns whether it begins a colour that is not whole, so that terminals differ in which numbers
+// they take for it.
 fn breaks_off(param: &CsiParam, after: &[CsiParam]) -> bool
     ensures { result ≡ breaks_off param.now after.now }
 {
     begins_color(param) && color_length(after) == 0 && !begins_part(after)
 }
 
-// How many of the parameters after this one belong to it.
+// Returns how many of the parameters after this one belong to it.
 fn length_of(param: &CsiParam, after: &[CsiParam]) -> usize
     ensures same { result ≡ length_of param.now after.now }
     ensures within { result ≤ length after.now }
@@ -68,7 +68,7 @@ fn length_of(param: &CsiParam, after: &[CsiParam]) -> usize
     }
 }
 
-// The same for a parameter that is no number of a colour: a colon has the number after it.
+// Does the same for a parameter that is no number of a colour: a colon has the number after it.
 fn part_length(param: &CsiParam, after: &[CsiParam]) -> usize
     ensures same { result ≡ part_length param.now after.now }
     ensures within { result ≤ length after.now }
@@ -79,7 +79,7 @@ fn part_length(param: &CsiParam, after: &[CsiParam]) -> usize
     }
 }
 
-// Whether a colon comes first.
+// Returns whether a colon comes first.
 fn begins_part(params: &[CsiParam]) -> bool
     ensures { result ≡ begins_part params.now }
 {
@@ -89,8 +89,8 @@ fn begins_part(params: &[CsiParam]) -> bool
     }
 }
 
-// The number of these parameters that say which colour it is: those of `;5;n` and of `;2;r;g;b`; 0
-// if they are neither.
+// Returns the number of these parameters that say which colour it is: those of `;5;n` and of
+// `;2;r;g;b`; 0 if they are neither.
 fn color_length(params: &[CsiParam]) -> usize
     ensures same { result ≡ color_length params.now }
     ensures within { result ≤ length params.now }
@@ -102,7 +102,7 @@ fn color_length(params: &[CsiParam]) -> usize
     }
 }
 
-// Whether `;` and a number are at this place.
+// Returns whether `;` and a number are at this place.
 fn has_number(params: &[CsiParam], at: usize) -> bool
     ensures same { result ≡ has_number at params.now }
     ensures within { IsTrue result → at + 2 ≤ length params.now }
@@ -110,7 +110,7 @@ fn has_number(params: &[CsiParam], at: usize) -> bool
     number_at(params, at).is_some()
 }
 
-// The number at this place, which `;` comes before.
+// Returns the number at this place, which `;` comes before.
 fn number_at(params: &[CsiParam], at: usize) -> Option<i64>
     ensures same { result ≡ number_at at params.now }
     ensures within { IfSome result (λ n. at + 2 ≤ length params.now) }

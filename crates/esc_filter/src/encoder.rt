@@ -21,7 +21,7 @@ pub struct Encoder {
 impl Encoder {
     ghost use Rattle.esc_filter.specs.Encoding.{AddsTo, HasWritten, IsNew};
 
-    /// An encoder that wrote nothing yet.
+    /// Returns an encoder that wrote nothing yet.
     pub fn new() -> Encoder
         ensures { IsNew result }
     {
@@ -82,7 +82,8 @@ fn append_after<A: Allocator>(
     }
 }
 
-// The text of an action that has one, by itself: so a refusal leaves the text of those before it.
+// Returns the text of an action that has one, by itself: so a refusal leaves the text of those
+// before it.
 fn own_text<A: Allocator>(
     alloc: A,
     follows_string: bool,

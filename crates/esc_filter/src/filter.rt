@@ -44,8 +44,8 @@ pub struct Filter<P, A: Allocator = Global> {
 impl<P: Admit<A>, A: Allocator + Copy> Filter<P, A> {
     ghost use Rattle.esc_filter.specs.Fed.{AfterIn, EndsAs, IsBroken, IsUnchanged, TakesAs, HasConsumed, HasConsumedIn, added_by, policy_of};
 
-    /// A filter at the beginning of a stream, which keeps at most `limit` bytes of a segment, as
-    /// [`Parser::with_limit`](esc_parse::Parser::with_limit) does. Takes no memory.
+    /// Returns a filter at the beginning of a stream, which keeps at most `limit` bytes of a
+    /// segment, as [`Parser::with_limit`](esc_parse::Parser::with_limit) does. Takes no memory.
     pub fn new(alloc: A, limit: usize, policy: P) -> Filter<P, A>
         ensures fed { HasConsumed limit (P.admits policy) [] result }
         ensures policy { policy_of result ≡ policy }
@@ -54,8 +54,8 @@ impl<P: Admit<A>, A: Allocator + Copy> Filter<P, A> {
         Filter::with_unicode(alloc, limit, policy, Unicode::Keep)
     }
 
-    /// The same; `unicode` says how characters that deceive are written. The text within a string,
-    /// as the address of a link, stays as it is, and so do carriage returns.
+    /// Does the same; `unicode` says how characters that deceive are written. The text within a
+    /// string, as the address of a link, stays as it is, and so do carriage returns.
     pub fn with_unicode(alloc: A, limit: usize, policy: P, unicode: Unicode) -> Filter<P, A>
         ensures fed { HasConsumedIn (of_unicode unicode) false limit (P.admits policy) [] result }
         ensures policy { policy_of result ≡ policy }
@@ -64,7 +64,7 @@ impl<P: Admit<A>, A: Allocator + Copy> Filter<P, A> {
         Filter::with_guard(alloc, limit, policy, Guard::of_unicode(unicode))
     }
 
-    /// The same; `guard` says how these are written, and carriage returns.
+    /// Does the same; `guard` says how these are written, and carriage returns.
     pub fn with_guard(alloc: A, limit: usize, policy: P, guard: Guard) -> Filter<P, A>
         ensures fed { HasConsumedIn guard false limit (P.admits policy) [] result }
         ensures policy { policy_of result ≡ policy }
@@ -73,7 +73,7 @@ impl<P: Admit<A>, A: Allocator + Copy> Filter<P, A> {
         Filter::begun(alloc, limit, policy, guard, false)
     }
 
-    /// The same; if `by_lines`, for a line, whose line feed it drops.
+    /// Does the same; if `by_lines`, for a line, whose line feed it drops.
     pub(crate) fn begun(
         alloc: A,
         limit: usize,
@@ -165,7 +165,7 @@ impl<P: Admit<A>, A: Allocator + Copy> Filter<P, A> {
         self.written.restart();
     }
 
-    /// Whether anything is left changed.
+    /// Returns whether anything is left changed.
     #[inline]
     pub(crate) fn is_changed(&self) -> bool
         ensures { result ≡ false → IsUnchanged self.now }
@@ -186,7 +186,7 @@ impl<P: Admit<A>, A: Allocator + Copy> Filter<P, A> {
         }
     }
 
-    /// Whether all text passes.
+    /// Returns whether all text passes.
     #[inline]
     pub(crate) fn passes_text(&self) -> bool
         ensures { IsTrue result → IsPassedText (P.admits (policy_of self.now)) }
@@ -194,7 +194,7 @@ impl<P: Admit<A>, A: Allocator + Copy> Filter<P, A> {
         self.policy.known().text
     }
 
-    /// Whether all renditions pass.
+    /// Returns whether all renditions pass.
     #[inline]
     pub(crate) fn passes_renditions(&self) -> bool
         ensures { IsTrue result → ArePassedRenditions (P.admits (policy_of self.now)) }
@@ -202,7 +202,8 @@ impl<P: Admit<A>, A: Allocator + Copy> Filter<P, A> {
         self.policy.known().renditions
     }
 
-    /// Whether a carriage return passes. One that does not is shown to the policy as left out.
+    /// Returns whether a carriage return passes. One that does not is shown to the policy as left
+    /// out.
     pub(crate) fn passes_return(&self) -> bool
         ensures { result ≡ P.admits (policy_of self.now) (control CarriageReturn) }
     {
@@ -214,14 +215,14 @@ impl<P: Admit<A>, A: Allocator + Copy> Filter<P, A> {
         passes
     }
 
-    /// The text that the bytes fed last added.
+    /// Returns the text that the bytes fed last added.
     pub fn text(&self) -> &str
         ensures { result.now ≡ added_by self.now }
     {
         self.written.spell.text.as_str()
     }
 
-    /// How many bytes are kept of the segment that is unfinished, as
+    /// Returns how many bytes are kept of the segment that is unfinished, as
     /// [`Parser::kept`](esc_parse::Parser::kept) counts them: at most the limit.
     pub fn kept(&self) -> usize
         ensures given { AfterIn false P.Admit self.now (λ u limit admits s. (gs : List Segment)

@@ -1,4 +1,4 @@
-//! From a stream to the text of the actions that pass.
+//! This module writes the text of the actions of a stream that pass.
 ghost use Rattle.std.specs.Prelude.{IsErrOf, Some};
 ghost use Rattle.esc_normal.specs.Streams.{Filters};
 ghost use Rattle.esc_filter.specs.Lines.{IsFilteredByLines, closed_by_lines};
@@ -41,9 +41,9 @@ pub fn filter_stream<R: Read, W: Write, P: Admit<A> + Drop, A: Allocator + Copy>
     pump(alloc, &mut filter, reader, writer)
 }
 
-/// The same, to which each line is a stream of its own, as it is to a
+/// Does the same, to which each line is a stream of its own, as it is to a
 /// [`LineFilter`](crate::LineFilter): a string that nobody ends hides nothing of the lines after
-/// it.
+/// it. Its errors are those of [`filter_stream`].
 pub fn filter_lines<R: Read, W: Write, P: Admit<A> + Drop, A: Allocator + Copy>(
     alloc: A,
     reader: &mut Watched<R>,

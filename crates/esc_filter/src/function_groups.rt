@@ -100,22 +100,22 @@ static ESCAPE_CHARSETS: [u32; 8] = [
     key!(b'#', b'6'),
 ];
 
-// The group of a function that changes the screen alone, at least with some parameters; `Other` for
-// any other.
+// Returns the group of a function that changes the screen alone, at least with some parameters;
+// `Other` for any other.
 pub(crate) fn group_of_function(function: ControlFunction) -> Group
     ensures { result ≡ of_function function }
 {
     group_of_key(function.row().key)
 }
 
-// The same for escape sequences.
+// Does the same for escape sequences.
 pub(crate) fn group_of_escape_function(function: EscapeFunction) -> Group
     ensures { result ≡ of_escape_function function }
 {
     group_of_escape_key(function.row().key)
 }
 
-// The group of the function of control sequences with this key.
+// Returns the group of the function of control sequences with this key.
 fn group_of_key(key: u32) -> Group
     ensures { result ≡ of_key key }
 {
@@ -132,7 +132,7 @@ fn group_of_key(key: u32) -> Group
     }
 }
 
-// The group of the function of escape sequences with this key.
+// Returns the group of the function of escape sequences with this key.
 fn group_of_escape_key(key: u32) -> Group
     ensures { result ≡ of_escape_key key }
 {

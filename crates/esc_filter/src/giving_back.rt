@@ -14,7 +14,7 @@ use std::alloc::{AllocError, Allocator};
 
 impl Terminal {
     /// Appends the text that undoes its changes; `keeps_cursor` says whether DECSC and DECRC may be
-    /// written.
+    /// written. The error is that memory was refused.
     pub fn give_back<A: Allocator>(
         &self,
         keeps_cursor: bool,
@@ -26,16 +26,16 @@ impl Terminal {
         push_all(text, &self.parts_back(keeps_cursor))
     }
 
-    // Whether the text that undoes its changes depends on whether DECSC and DECRC may be written:
-    // there are margins, or the state that is saved with the cursor is changed.
+    // Returns whether the text that undoes its changes depends on whether DECSC and DECRC may be
+    // written: there are margins, or the state that is saved with the cursor is changed.
     fn is_cursor_due(&self) -> bool
         ensures { result ≡ is_cursor_due self.now }
     {
         self.margins || self.saved.is_changed()
     }
 
-    // The texts that undo its changes, one after another: the text that shows the main screen, and
-    // those for the changes that are left once that is shown.
+    // Returns the texts that undo its changes, one after another: the text that shows the main
+    // screen, and those for the changes that are left once that is shown.
     fn parts_back(&self, keeps_cursor: bool) -> [&'static str; 17]
         ensures { map (λ s. s.now) result ≡ parts_back keeps_cursor self.now }
     {
@@ -61,7 +61,7 @@ impl Terminal {
         ]
     }
 
-    // The same with the main screen, as its sequence leaves it.
+    // Does the same with the main screen, as its sequence leaves it.
     fn on_main(&self) -> Terminal
         ensures { result ≡ on_main self.now }
     {
@@ -74,7 +74,8 @@ impl Terminal {
         terminal
     }
 
-    // Whether the state that is saved with the cursor is to be restored, once the margins were.
+    // Returns whether the state that is saved with the cursor is to be restored, once the margins
+    // were.
     fn is_saved_due(&self, keeps_cursor: bool) -> bool
         ensures { result ≡ is_saved_due keeps_cursor self.now }
     {
@@ -83,7 +84,7 @@ impl Terminal {
 }
 
 impl Screen {
-    // The text that shows the main screen.
+    // Returns the text that shows the main screen.
     fn main_part(self) -> &'static str
         ensures { result.now ≡ main_part self }
     {
@@ -96,14 +97,14 @@ impl Screen {
     }
 }
 
-// A text, if its part is changed.
+// Returns a text, if its part is changed.
 fn part(is_changed: bool, back: &'static str) -> &'static str
     ensures { result.now ≡ part is_changed back.now }
 {
     if is_changed { back } else { "" }
 }
 
-// The text that resets the margins, with the cursor at its place, or at home.
+// Returns the text that resets the margins, with the cursor at its place, or at home.
 fn margins_part(keeps_cursor: bool) -> &'static str
     ensures { result.now ≡ margins_part keeps_cursor }
 {
@@ -114,7 +115,7 @@ fn margins_part(keeps_cursor: bool) -> &'static str
     }
 }
 
-// The text that saves the cursor.
+// Returns the text that saves the cursor.
 fn saved_part(keeps_cursor: bool) -> &'static str
     ensures { result.now ≡ saved_part keeps_cursor }
 {
@@ -135,22 +136,22 @@ fn push_all<A: Allocator>(text: &mut Text<A>, parts: &[&'static str]) -> Result<
     Ok(())
 }
 
-/// Whether the cursor is to be saved and restored as this terminal is restored: the text depends on
-/// it, and the policy admits DECSC and DECRC.
+/// Returns whether the cursor is to be saved and restored as this terminal is restored: the text
+/// depends on it, and the policy admits DECSC and DECRC.
 pub(crate) fn keeps_cursor_of<A: Allocator, P: Admit<A>>(terminal: &Terminal, policy: &P) -> bool
     ensures { result ≡ (is_cursor_due terminal.now && keeps_cursor {A = A} (P.admits policy.now)) }
 {
     terminal.is_cursor_due() && keeps_cursor(policy)
 }
 
-// Whether a policy admits them.
+// Returns whether a policy admits them.
 fn keeps_cursor<A: Allocator, P: Admit<A>>(policy: &P) -> bool
     ensures { result ≡ keeps_cursor {A = A} (P.admits policy.now) }
 {
     policy.admits(&saving(b'7')) && policy.admits(&saving(b'8'))
 }
 
-// An escape sequence of this final byte.
+// Returns an escape sequence of this final byte.
 fn saving<A: Allocator>(control: u8) -> Action<A>
     ensures { value_of result ≡ escape None control }
 {

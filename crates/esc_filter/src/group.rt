@@ -60,7 +60,7 @@ pub enum Group {
 }
 
 impl Group {
-    /// The group of an action.
+    /// Returns the group of an action.
     pub fn of<A: Allocator>(action: &Action<A>) -> Group
         ensures { result ≡ group_of (value_of action.now) }
     {
@@ -131,7 +131,7 @@ fn group_of_sequence<A: Allocator>(csi: &CSI<A>) -> Group
     }
 }
 
-// The group of a control sequence that has no name of its own.
+// Returns the group of a control sequence that has no name of its own.
 pub(crate) fn group_of_body(params: &[CsiParam], control: u8) -> Group
     ensures { result ≡ of_body params.now control }
 {
@@ -144,7 +144,7 @@ pub(crate) fn group_of_body(params: &[CsiParam], control: u8) -> Group
     }
 }
 
-// The group of renditions with these parameters.
+// Returns the group of renditions with these parameters.
 fn group_of_rendition(params: &[CsiParam]) -> Group
     ensures { result ≡ of_rendition params.now }
 {
@@ -186,7 +186,7 @@ fn group_of_command<A: Allocator>(command: &OperatingSystemCommand<A>) -> Group
     }
 }
 
-// The group of a command that has these parts, and no other reading.
+// Returns the group of a command that has these parts, and no other reading.
 fn group_of_parts<A: Allocator>(parts: &[Items<u8, A>]) -> Group
     ensures { result ≡ of_parts parts.now }
 {

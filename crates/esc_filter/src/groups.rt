@@ -20,7 +20,7 @@ use std::alloc::Allocator;
 /// not pass, links with DEL or characters that deceive do not either.
 #[derive(Clone, Copy, Debug)]
 pub struct Groups<'a> {
-    // whether each group passes, in their order
+    // says whether each group passes, in their order
     allowed: [bool; 16],
     // the schemes of the links that pass, with `,` between them; if there are none, all schemes
     // pass
@@ -28,7 +28,7 @@ pub struct Groups<'a> {
 }
 
 impl<'a> Groups<'a> {
-    /// The groups of the actions that a policy admits, which together admit the same.
+    /// Returns the groups of the actions that a policy admits, which together admit the same.
     pub fn of(policy: Policy) -> Groups<'a>
         ensures { result ≡ groups_of policy }
     {
@@ -38,23 +38,23 @@ impl<'a> Groups<'a> {
         }
     }
 
-    /// These groups, and this one.
+    /// Returns these groups, and this one.
     pub fn and(&self, group: Group) -> Groups<'a>
         ensures { result ≡ with_group self.now group true }
     {
         self.with(group, true)
     }
 
-    /// These groups but this one.
+    /// Returns these groups but this one.
     pub fn without(&self, group: Group) -> Groups<'a>
         ensures { result ≡ with_group self.now group false }
     {
         self.with(group, false)
     }
 
-    /// These groups; but only those links pass whose address has one of these schemes, and the ends
-    /// of links. `schemes` has them with `,` between them, as `http,https`. An address has a scheme
-    /// if it begins with it, in either case, and a colon (RFC 3986, 3.1).
+    /// Returns these groups; but only those links pass whose address has one of these schemes, and
+    /// the ends of links. `schemes` has them with `,` between them, as `http,https`. An address has
+    /// a scheme if it begins with it, in either case, and a colon (RFC 3986, 3.1).
     pub fn with_schemes(&self, schemes: &'a str) -> Groups<'a>
         ensures { IsWithSchemes self.now schemes.now result }
     {
@@ -64,14 +64,14 @@ impl<'a> Groups<'a> {
         }
     }
 
-    /// Whether the actions of this group pass.
+    /// Returns whether the actions of this group pass.
     pub fn has(&self, group: Group) -> bool
         ensures { result ≡ has self.now group }
     {
         self.allowed[place(group)]
     }
 
-    // These groups, with this one or without it.
+    // Returns these groups, with this one or without it.
     fn with(&self, group: Group, is: bool) -> Groups<'a>
         ensures { result ≡ with_group self.now group is }
     {
@@ -83,8 +83,8 @@ impl<'a> Groups<'a> {
         }
     }
 
-    // Whether the actions of a control sequence pass; not known if it is renditions, one of which
-    // conceals text, and those pass and others do not, or the other way round.
+    // Returns whether the actions of a control sequence pass; not known if it is renditions, one of
+    // which conceals text, and those pass and others do not, or the other way round.
     #[tactic(auto, using(crate::proofs::Admission::ChoicesAdmit::choices))]
     fn has_sequence(&self, params: &[CsiParam], control: u8) -> Option<bool>
         ensures passes { result ≡ Some true → list_all (has_sequence self.now)
@@ -146,7 +146,7 @@ impl<'a, A: Allocator> Admit<A> for Groups<'a> {
     }
 }
 
-// Whether each group is one of this policy.
+// Returns whether each group is one of this policy.
 fn allowed_by(policy: Policy) -> [bool; 16]
     ensures { result ≡ (groups_of policy).allowed }
 {
@@ -170,7 +170,7 @@ fn allowed_by(policy: Policy) -> [bool; 16]
     }
 }
 
-// The place of a group in their order.
+// Returns the place of a group in their order.
 fn place(group: Group) -> usize
     ensures place { result ≡ place group }
     ensures below { result < 16 }

@@ -26,7 +26,7 @@ impl Guard {
         }
     }
 
-    /// Whether characters are kept.
+    /// Returns whether characters are kept.
     #[inline]
     pub(crate) fn keeps_characters(self) -> bool
         ensures { result ≡ keeps_characters self.characters }

@@ -15,7 +15,7 @@ pub(crate) struct Modes {
 }
 
 impl Modes {
-    /// As at the start.
+    /// The modes as at the start.
     pub const UNCHANGED: Modes = Modes {
         reverse: false,
         origin: false,
@@ -26,7 +26,7 @@ impl Modes {
         held: false,
     };
 
-    /// Whether the private mode of this number was set, one of those that are kept.
+    /// Returns whether the private mode of this number was set, one of those that are kept.
     pub fn was_set(self, number: u64) -> bool
         ensures { result ≡ was_set number self }
     {

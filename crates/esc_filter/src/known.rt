@@ -23,7 +23,7 @@ pub struct Known {
 }
 
 impl Known {
-    /// Nothing: the policy is asked of each action.
+    /// Returns that nothing is known: the policy is asked about each action.
     #[inline]
     pub fn nothing() -> Known
         ensures { result ≡ nothing }

@@ -43,7 +43,7 @@ pub fn passed_reads_back<A: Allocator>()
     written_reads_back::<A>();
 }
 
-/// The same, whatever is written for deceiving text.
+/// Does the same, whatever is written for deceiving text.
 pub fn written_reads_back<A: Allocator>()
     ensures goes_on { (u : Guard) (limit : Option ℕ) (admits : Value A → Bool) (s : List ℕ)
         → IsFilteredAs u false limit admits s (passed_text_as u limit admits s) }
@@ -103,7 +103,7 @@ pub fn lines_read_back<A: Allocator>()
     written_lines_read_back::<A>();
 }
 
-/// The same, whatever is written for deceiving text.
+/// Does the same, whatever is written for deceiving text.
 pub fn written_lines_read_back<A: Allocator>()
     ensures { (has_ended : Bool) (u : Guard) (limit : ℕ) (admits : Value A → Bool) (s : List ℕ)
         → IsFilteredByLinesAs has_ended u limit admits s

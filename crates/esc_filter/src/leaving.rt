@@ -74,7 +74,7 @@ impl Terminal {
         }
     }
 
-    // The same for a function.
+    // Does the same for a function.
     fn change_by_escape(&mut self, function: EscapeFunction, control: u8)
         ensures { self.new ≡ after_escape_function function control self.old }
     {
@@ -184,7 +184,7 @@ impl Terminal {
     }
 }
 
-// Whether a link to an address is open after it.
+// Returns whether a link to an address is open after it.
 fn opens<A: Allocator>(link: &Option<Hyperlink<A>>) -> bool
     ensures { result ≡ opens link.now }
 {
@@ -194,8 +194,8 @@ fn opens<A: Allocator>(link: &Option<Hyperlink<A>>) -> bool
     }
 }
 
-/// Whether this link, which is written as it came, may be without an address and not written as the
-/// end of a link is.
+/// Returns whether this link, which is written as it came, may be without an address and not
+/// written as the end of a link is.
 #[inline]
 pub(crate) fn is_other_end(link: &str) -> bool
     ensures { result ≡ false → link.now ≢ codes "8;;" → ends_in_semicolon false link.now ≡ false }
@@ -203,14 +203,15 @@ pub(crate) fn is_other_end(link: &str) -> bool
     link != "8;;" && ends_in_semicolon(link.as_bytes())
 }
 
-// Whether a semicolon comes last.
+// Returns whether a semicolon comes last.
 fn ends_in_semicolon(bytes: &[u8]) -> bool
     ensures { result ≡ ends_in_semicolon false bytes.now }
 {
     !bytes.is_empty() && bytes[bytes.len() - 1] == b';'
 }
 
-// Whether a control sequence with this final byte may leave anything changed, or give it back.
+// Returns whether a control sequence with this final byte may leave anything changed, or give it
+// back.
 #[inline]
 fn may_change(control: u8) -> bool
     ensures { result ≡ false → (es : List CsiParam) (t : Terminal)
@@ -222,7 +223,7 @@ fn may_change(control: u8) -> bool
     )
 }
 
-// Whether the renditions of these numbers leave any on.
+// Returns whether the renditions of these numbers leave any on.
 #[inline]
 fn lights(numbers: ShortNumbers) -> bool
     ensures { result ≡ lights numbers }
@@ -233,14 +234,14 @@ fn lights(numbers: ShortNumbers) -> bool
     }
 }
 
-// Whether a rendition resets all.
+// Returns whether a rendition resets all.
 fn is_reset(sgr: Sgr) -> bool
     ensures { result ≡ is_reset sgr }
 {
     matches!(sgr, Sgr::Reset)
 }
 
-/// Whether the command of this text leaves all as it was, if that is seen at once.
+/// Returns whether the command of this text leaves all as it was, if that is seen at once.
 #[tactic(auto, using(crate::proofs::Admission::CommandsAreKnown::other_leaves))]
 #[inline]
 pub(crate) fn leaves_all<A: Allocator>(text: &[u8]) -> bool
@@ -250,7 +251,7 @@ pub(crate) fn leaves_all<A: Allocator>(text: &[u8]) -> bool
     has_other_code(text)
 }
 
-// The natural number that a parameter is.
+// Returns the natural number that a parameter is.
 #[inline]
 fn natural(param: CsiParam) -> Option<u64>
     ensures { IfSome result (λ n. param ≡ Integer (pos n)) }
@@ -264,7 +265,7 @@ fn natural(param: CsiParam) -> Option<u64>
     }
 }
 
-// The natural number that is the only parameter.
+// Returns the natural number that is the only parameter.
 #[inline]
 fn lone_number(params: &[CsiParam]) -> Option<u64>
     ensures { IfSome result (λ n. params.now ≡ Integer (pos n) ∷ []) }
@@ -275,7 +276,7 @@ fn lone_number(params: &[CsiParam]) -> Option<u64>
     natural(*param)
 }
 
-// The natural number that comes first.
+// Returns the natural number that comes first.
 #[inline]
 fn first_number(params: &[CsiParam]) -> Option<u64>
     ensures { IfSome result (λ n. BeginsWith n params.now) }
@@ -286,8 +287,8 @@ fn first_number(params: &[CsiParam]) -> Option<u64>
     natural(*first)
 }
 
-/// Whether renditions are on after a control sequence, or that its body says which changes it
-/// leaves, if it is seen at once that it is one action.
+/// Returns whether renditions are on after a control sequence, or that its body says which changes
+/// it leaves, if it is seen at once that it is one action.
 #[inline]
 pub(crate) fn renditions_after(params: &[CsiParam], control: u8) -> Option<Option<bool>>
     ensures { IfSome result (λ is_on. (v : CsiValue) × (csi_of params.now false control ≡ v ∷ [])
@@ -303,8 +304,8 @@ pub(crate) fn renditions_after(params: &[CsiParam], control: u8) -> Option<Optio
     }
 }
 
-// Whether renditions are on after a sequence of these parameters and `m`, if it is seen at once
-// that this is one action.
+// Returns whether renditions are on after a sequence of these parameters and `m`, if it is seen at
+// once that this is one action.
 #[tactic(auto, using(crate::proofs::GivingBack::RenditionsAfterSequence::turning))]
 #[inline]
 fn are_on(params: &[CsiParam]) -> Option<bool>
@@ -322,7 +323,7 @@ fn are_on(params: &[CsiParam]) -> Option<bool>
     }
 }
 
-// The same, if the sequence has no name of its own.
+// Does the same, if the sequence has no name of its own.
 fn are_unnamed(params: &[CsiParam]) -> Option<bool>
     ensures { IfSome result (λ b. Turns params.now b) }
 {

@@ -34,7 +34,7 @@ pub struct LineFilter<P, A: Allocator = Global> {
     pub(crate) filter: Filter<P, A>,
     // the text that the bytes fed last added
     pub(crate) text: String<A>,
-    // whether a carriage return came last, which may be a part of the end of its line
+    // says whether a carriage return came last, which may be a part of the end of its line
     holds: bool,
     pub(crate) has_failed: bool,
 }
@@ -42,8 +42,8 @@ pub struct LineFilter<P, A: Allocator = Global> {
 impl<P: Admit<A>, A: Allocator + Copy> LineFilter<P, A> {
     ghost use Rattle.esc_filter.specs.Lines.{AddsText, AfterLines, ClosesLine, EndsBy, EndsLine, EndsLines, FillsLine, GrowsBy, GrowsLine, GrowsRest, OnLine, OnRest, HasConsumedLines, added_by, policy_of_lines};
 
-    /// A filter at the beginning of a stream, which keeps at most `limit` bytes of a segment, as
-    /// [`Filter::new`] does. Takes no memory.
+    /// Returns a filter at the beginning of a stream, which keeps at most `limit` bytes of a
+    /// segment, as [`Filter::new`] does. Takes no memory.
     pub fn new(alloc: A, limit: usize, policy: P) -> LineFilter<P, A>
         ensures fed { HasConsumedLines (of_unicode Unicode.Keep) limit (P.admits policy) [] result }
         ensures policy { policy_of_lines result ≡ policy }
@@ -52,7 +52,7 @@ impl<P: Admit<A>, A: Allocator + Copy> LineFilter<P, A> {
         LineFilter::with_unicode(alloc, limit, policy, Unicode::Keep)
     }
 
-    /// The same; `unicode` says how characters that deceive are written, as
+    /// Does the same; `unicode` says how characters that deceive are written, as
     /// [`Filter::with_unicode`] does. Bare carriage returns are kept.
     pub fn with_unicode(alloc: A, limit: usize, policy: P, unicode: Unicode) -> LineFilter<P, A>
         ensures fed { HasConsumedLines (of_unicode unicode) limit (P.admits policy) [] result }
@@ -62,7 +62,7 @@ impl<P: Admit<A>, A: Allocator + Copy> LineFilter<P, A> {
         LineFilter::with_guard(alloc, limit, policy, Guard::of_unicode(unicode))
     }
 
-    /// The same; `guard` says how these are written, and bare carriage returns.
+    /// Does the same; `guard` says how these are written, and bare carriage returns.
     pub fn with_guard(alloc: A, limit: usize, policy: P, guard: Guard) -> LineFilter<P, A>
         ensures fed { HasConsumedLines guard limit (P.admits policy) [] result }
         ensures policy { policy_of_lines result ≡ policy }
@@ -135,7 +135,7 @@ impl<P: Admit<A>, A: Allocator + Copy> LineFilter<P, A> {
         }
     }
 
-    /// The text that the bytes fed last added.
+    /// Returns the text that the bytes fed last added.
     pub fn text(&self) -> &str
         ensures { result.now ≡ added_by self.now }
     {
@@ -225,7 +225,7 @@ impl<P: Admit<A>, A: Allocator + Copy> LineFilter<P, A> {
         self.fill_short(&before[..before.len() - 1])
     }
 
-    // The same for the bytes before the line feed, in two parts.
+    // Does the same for the bytes before the line feed, in two parts.
     fn fill_long(&mut self, before: &[u8]) -> Result<(), AllocError>
         ensures given { OnRest P.Admit self.old (λ u limit admits r.
             OnOk result (FillsLine u admits limit r before.now self.old self.new)) }
@@ -400,7 +400,7 @@ impl<P: Admit<A>, A: Allocator + Copy> LineFilter<P, A> {
     }
 }
 
-// These bytes, and a line feed after them.
+// Returns these bytes, and a line feed after them.
 #[inline(always)]
 fn with_feed(bytes: &[u8]) -> [u8; 256]
     requires { length bytes.now < 256 }
@@ -412,15 +412,15 @@ fn with_feed(bytes: &[u8]) -> [u8; 256]
     line
 }
 
-// Whether a carriage return comes last.
+// Returns whether a carriage return comes last.
 fn ends_return(bytes: &[u8]) -> bool
     ensures { result ≡ ends_return false bytes.now }
 {
     !bytes.is_empty() && bytes[bytes.len() - 1] == b'\r'
 }
 
-/// The length of the line that these bytes begin with, with its line feed. None if they have no
-/// line feed.
+/// Returns the length of the line that these bytes begin with, with its line feed. None if they
+/// have no line feed.
 pub fn line_length(bytes: &[u8]) -> Option<usize>
     ensures { MatchOption result (has_line_feed bytes.now ≡ false)
         (λ n. (0 < n) × (n ≤ length bytes.now) × IsLine (take n bytes.now)) }

@@ -21,7 +21,7 @@ use esc_write::plain_link;
 use std::alloc::Allocator;
 use unicode_visibility::has_deceiving;
 
-/// Whether the action is no link with DEL or a character that deceives, or these pass too.
+/// Returns whether the action is no link with DEL or a character that deceives, or these pass too.
 pub(crate) fn shows<A: Allocator>(all: bool, action: &Action<A>) -> bool
     ensures { result ≡ shows all (value_of action.now) }
 {
@@ -34,7 +34,7 @@ pub(crate) fn shows<A: Allocator>(all: bool, action: &Action<A>) -> bool
     }
 }
 
-// Whether it is a link, or the end of one.
+// Returns whether it is a link, or the end of one.
 fn is_hyperlink<A: Allocator>(command: &OperatingSystemCommand<A>) -> bool
     ensures { result ≡ is_hyperlink command.now }
 {
@@ -45,7 +45,8 @@ fn is_hyperlink<A: Allocator>(command: &OperatingSystemCommand<A>) -> bool
     }
 }
 
-/// Whether it is a link, or the end of one, without DEL and without characters that deceive.
+/// Returns whether it is a link, or the end of one, without DEL and without characters that
+/// deceive.
 pub(crate) fn is_link<A: Allocator>(command: &OperatingSystemCommand<A>) -> bool
     ensures { result ≡ is_link command.now }
 {
@@ -56,7 +57,7 @@ pub(crate) fn is_link<A: Allocator>(command: &OperatingSystemCommand<A>) -> bool
     }
 }
 
-// Whether neither the parameters nor the address have such characters.
+// Returns whether neither the parameters nor the address have such characters.
 fn is_clean_link<A: Allocator>(link: &Option<Hyperlink<A>>) -> bool
     ensures { result ≡ is_clean_link link.now }
 {
@@ -66,7 +67,7 @@ fn is_clean_link<A: Allocator>(link: &Option<Hyperlink<A>>) -> bool
     }
 }
 
-// The same for keys and values.
+// Does the same for keys and values.
 fn are_clean_pairs<A: Allocator>(mut pairs: Iter<'_, A>) -> bool
     ensures { result ≡ list_all is_clean_pair pairs.entry }
 {
@@ -78,28 +79,29 @@ fn are_clean_pairs<A: Allocator>(mut pairs: Iter<'_, A>) -> bool
     true
 }
 
-// The same for a key and a value.
+// Does the same for a key and a value.
 fn is_clean_pair(key: &str, value: &str) -> bool
     ensures { result ≡ is_clean_pair (key.now, value.now) }
 {
     is_clean(key) && is_clean(value)
 }
 
-// The same for a text.
+// Does the same for a text.
 fn is_clean(text: &str) -> bool
     ensures { result ≡ is_clean text.now }
 {
     are_shown(text.as_bytes()) && !has_deceiving(text)
 }
 
-// Whether the parts of a command without another reading are those of a link, and such texts.
+// Returns whether the parts of a command without another reading are those of a link, and such
+// texts.
 fn are_clean_link<A: Allocator>(parts: &[Items<u8, A>]) -> bool
     ensures { result ≡ are_clean_link parts.now }
 {
     has_address(parts) && are_clean(parts)
 }
 
-// Whether all are such texts.
+// Returns whether all are such texts.
 fn are_clean<A: Allocator>(parts: &[Items<u8, A>]) -> bool
     ensures { result ≡ list_all is_clean_part parts.now }
 {
@@ -115,7 +117,7 @@ fn is_clean_part<A: Allocator>(part: &Items<u8, A>) -> bool
     }
 }
 
-/// Whether they are those of a link.
+/// Returns whether they are those of a link.
 pub(crate) fn has_address<A: Allocator>(parts: &[Items<u8, A>]) -> bool
     ensures { result ≡ has_parts (address_in parts.now) }
 {
@@ -125,7 +127,7 @@ pub(crate) fn has_address<A: Allocator>(parts: &[Items<u8, A>]) -> bool
     }
 }
 
-/// The parts of the address of a link, if the command of these parts has no other reading.
+/// Returns the parts of the address of a link, if the command of these parts has no other reading.
 pub(crate) fn address_in<A: Allocator>(parts: &[Items<u8, A>]) -> &[Items<u8, A>]
     ensures { result.now ≡ address_in parts.now }
 {
@@ -135,7 +137,7 @@ pub(crate) fn address_in<A: Allocator>(parts: &[Items<u8, A>]) -> &[Items<u8, A>
     }
 }
 
-// Whether it is the code of links.
+// Returns whether it is the code of links.
 fn is_link_code(code: &[u8]) -> bool
     ensures { result ≡ is_link_code code.now }
 {
@@ -145,7 +147,7 @@ fn is_link_code(code: &[u8]) -> bool
     }
 }
 
-/// Whether these parts, with `;` between them, are an address, and not an empty text.
+/// Returns whether these parts, with `;` between them, are an address, and not an empty text.
 pub(crate) fn is_address<A: Allocator>(parts: &[Items<u8, A>]) -> bool
     ensures { result ≡ is_address parts.now }
 {
@@ -156,7 +158,8 @@ pub(crate) fn is_address<A: Allocator>(parts: &[Items<u8, A>]) -> bool
     }
 }
 
-/// The text of a link, or of the end of one, that is seen at once to be one: a plain link, as
+/// Returns the text of a link, or of the end of one, that is seen at once to be one: a plain link,
+/// as
 /// `esc_write` says, of bytes 20 to 7E.
 #[tactic(auto, using(crate::proofs::Admission::PlainLinksAreLinks::plain_is_link))]
 #[inline]

@@ -45,7 +45,7 @@ impl<'p, P: Admit<A>, A: Allocator> Passing<'p, P, A> {
         self.written.append_control(code)
     }
 
-    // Whether the policy admits a control; most of them lay out text.
+    // Returns whether the policy admits a control; most of them lay out text.
     #[inline]
     fn admits_control(&self, code: ControlCode) -> bool
         ensures { result ≡ P.admits self.now.policy.now (control code) }

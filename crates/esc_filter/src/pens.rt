@@ -13,14 +13,15 @@ use esc_values::CsiParam;
 use std::alloc::{AllocError, Allocator};
 use typed_functions::Rendition;
 
-/// None at the start. They are noted if lines are streams of their own.
+/// Returns the renditions at the start, which are none. They are noted if lines are streams of
+/// their own.
 pub(crate) fn start_pen(by_lines: bool) -> Option<Pen>
     ensures { result ≡ start_pen by_lines }
 {
     if by_lines { Some(Pen::plain()) } else { None }
 }
 
-/// After an action.
+/// Returns the pen after an action.
 #[inline]
 pub(crate) fn pen_after<A: Allocator>(pen: Option<Pen>, action: &Action<A>) -> Option<Pen>
     ensures { result ≡ pen_after_value (value_of action.now) pen }
@@ -31,7 +32,7 @@ pub(crate) fn pen_after<A: Allocator>(pen: Option<Pen>, action: &Action<A>) -> O
     }
 }
 
-/// After a control sequence; its final byte says whether it is renditions.
+/// Returns the pen after a control sequence; its final byte says whether it is renditions.
 #[inline]
 pub(crate) fn pen_after_final(pen: Option<Pen>, params: &[CsiParam], control: u8) -> Option<Pen>
     ensures { result ≡ pen_after_final params.now control pen }
@@ -57,7 +58,7 @@ pub(crate) fn push_pen<A: Allocator>(
     }
 }
 
-// After a control sequence.
+// Returns the pen after a control sequence.
 fn after_sequence<A: Allocator>(pen: Option<Pen>, csi: &CSI<A>) -> Option<Pen>
     ensures { result ≡ pen_after_sequence (csi_value csi.now) pen }
 {
@@ -70,7 +71,7 @@ fn after_sequence<A: Allocator>(pen: Option<Pen>, csi: &CSI<A>) -> Option<Pen>
     }
 }
 
-// After one that has no name of its own.
+// Returns the pen after a control sequence that has no name of its own.
 fn after_body(pen: Option<Pen>, params: &[CsiParam], control: u8) -> Option<Pen>
     ensures { result ≡ pen_after_body params.now control pen }
 {
@@ -81,7 +82,7 @@ fn after_body(pen: Option<Pen>, params: &[CsiParam], control: u8) -> Option<Pen>
     }
 }
 
-// After a rendition.
+// Returns the pen after a rendition.
 fn pen_with(pen: Option<Pen>, rendition: Rendition) -> Option<Pen>
     ensures { result ≡ pen_with rendition pen }
 {
@@ -94,7 +95,7 @@ fn pen_with(pen: Option<Pen>, rendition: Rendition) -> Option<Pen>
     }
 }
 
-// After renditions of these parameters.
+// Returns the pen after renditions of these parameters.
 #[inline]
 fn selected(pen: Option<Pen>, params: &[CsiParam]) -> Option<Pen>
     ensures { result ≡ pen_selected params.now pen }
@@ -108,7 +109,7 @@ fn selected(pen: Option<Pen>, params: &[CsiParam]) -> Option<Pen>
     }
 }
 
-// The rendition that it is.
+// Returns the rendition that it is.
 fn rendition_of(sgr: Sgr) -> Rendition
     ensures { result ≡ rendition_of sgr }
 {

@@ -9,9 +9,9 @@ use std::alloc::Allocator;
 use std::str;
 use unicode_visibility::is_deceiving;
 
-/// The first lines that have nothing before their ends but bytes 20 to 7E, tabs, characters from
-/// U+00A0 on that do not deceive and, if `renditions` is true, renditions that are written as they
-/// came; the last one in a line turns all off.
+/// Returns the first lines that have nothing before their ends but bytes 20 to 7E, tabs, characters
+/// from U+00A0 on that do not deceive and, if `renditions` is true, renditions that are written as
+/// they came; the last one in a line turns all off.
 pub(crate) fn plain_lines<A: Allocator>(bytes: &[u8], renditions: bool) -> &str
     ensures lines { ArePlainLines A renditions result.now }
     ensures first { result.now ≡ take (length result.now) bytes.now }
@@ -21,7 +21,7 @@ pub(crate) fn plain_lines<A: Allocator>(bytes: &[u8], renditions: bool) -> &str
     unsafe { str::from_utf8_unchecked(&bytes[..length]) }
 }
 
-// How long they are.
+// Returns how long they are.
 fn plain_length<A: Allocator>(bytes: &[u8], renditions: bool) -> usize
     ensures lines { ArePlainLines A renditions (take result bytes.now) }
     ensures few { result ≤ length bytes.now }
@@ -70,8 +70,8 @@ fn plain_length<A: Allocator>(bytes: &[u8], renditions: bool) -> usize
     end
 }
 
-// The length of the run of characters from U+00A0 on that do not deceive. It is apart from the code
-// for ASCII.
+// Returns the length of the run of characters from U+00A0 on that do not deceive. It is apart from
+// the code for ASCII.
 #[inline(never)]
 fn wide_run(bytes: &[u8]) -> usize
     ensures few { result ≤ length bytes.now }
@@ -88,7 +88,8 @@ fn wide_run(bytes: &[u8]) -> usize
     end
 }
 
-// The length of such a character at the beginning; or 0. In fewer than four bytes none is seen.
+// Returns the length of such a character at the beginning; or 0. In fewer than four bytes none is
+// seen.
 #[inline(always)]
 fn wide_ahead(bytes: &[u8]) -> usize
     ensures few { result ≤ length bytes.now }
@@ -105,7 +106,8 @@ fn wide_ahead(bytes: &[u8]) -> usize
     }
 }
 
-// Whether they are a character of U+00C0 to U+033F or U+0380 to U+05FF, none of which deceives.
+// Returns whether they are a character of U+00C0 to U+033F or U+0380 to U+05FF, none of which
+// deceives.
 #[inline(always)]
 fn is_plain_two(a: u8, b: u8) -> bool
     ensures { result ≡ is_plain_two a b }
@@ -113,7 +115,7 @@ fn is_plain_two(a: u8, b: u8) -> bool
     lies_from(0xc3, 0xd7, a) && a != 0xcd && lies_from(0x80, 0xbf, b)
 }
 
-// The same for U+2080 to U+313F and U+4000 to U+CFFF.
+// Does the same for U+2080 to U+313F and U+4000 to U+CFFF.
 #[inline(always)]
 fn is_plain_three(a: u8, b: u8, c: u8) -> bool
     ensures { result ≡ is_plain_three a b c }
@@ -129,7 +131,7 @@ fn is_plain_three(a: u8, b: u8, c: u8) -> bool
     }
 }
 
-// The same for any other character.
+// Does the same for any other character.
 #[inline(never)]
 fn other_ahead(bytes: &[u8]) -> usize
     ensures few { result ≤ length bytes.now }
@@ -139,8 +141,8 @@ fn other_ahead(bytes: &[u8]) -> usize
     if n > 0 && !is_deceiving(c) { n } else { 0 }
 }
 
-// The length of the rendition that comes first, and whether it leaves renditions on. It is one of
-// a number alone, or a colour of the palette (`38;5;n` or `48;5;n`), and written as it came.
+// Returns the length of the rendition that comes first, and whether it leaves renditions on. It is
+// one of a number alone, or a colour of the palette (`38;5;n` or `48;5;n`), and written as it came.
 #[inline]
 fn short_rendition(bytes: &[u8]) -> Option<(usize, bool)>
     ensures { IfSome result (λ r. (r.0 ≤ length bytes.now)
@@ -156,8 +158,8 @@ fn short_rendition(bytes: &[u8]) -> Option<(usize, bool)>
     Some((2 + number.0, number.1))
 }
 
-// The length of the number of up to three digits at the beginning, as it is written, with the `m`
-// after it, and whether it is another than 0. For fewer than four bytes it is `None`.
+// Returns the length of the number of up to three digits at the beginning, as it is written, with
+// the `m` after it, and whether it is another than 0. For fewer than four bytes it is `None`.
 #[inline]
 fn last_number(bytes: &[u8]) -> Option<(usize, bool)>
     ensures { IfSome result (λ r. (r.0 ≤ length bytes.now) × IsNumber (take r.0 bytes.now) r.1) }

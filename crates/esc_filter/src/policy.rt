@@ -16,7 +16,7 @@ use esc_sequences::CSI;
 use esc_values::CsiParam;
 use std::alloc::Allocator;
 
-/// Which actions pass a filter. Each admits all that the one before it does.
+/// Says which actions pass a filter. Each admits all that the one before it does.
 #[derive(Clone, Copy, Debug, PartialEq, Eq)]
 pub enum Policy {
     /// Characters but DEL; tab, line feed and carriage return.
@@ -123,7 +123,7 @@ impl<A: Allocator> Admit<A> for Policy {
     }
 }
 
-// Whether the policy admits the action, apart from the code for text.
+// Returns whether the policy admits the action, apart from the code for text.
 #[inline(never)]
 fn is_admitted<A: Allocator>(policy: &Policy, action: &Action<A>) -> bool
     ensures { result ≡ admits policy.now (value_of action.now) }
@@ -136,8 +136,8 @@ fn is_admitted<A: Allocator>(policy: &Policy, action: &Action<A>) -> bool
     }
 }
 
-// Whether the command of this text is a link; known if it begins with a digit other than 8, and if
-// it is a plain link of bytes 20 to 7E.
+// Returns whether the command of this text is a link; known if it begins with a digit other than 8,
+// and if it is a plain link of bytes 20 to 7E.
 #[inline]
 fn link_passes<A: Allocator>(text: &[u8]) -> Option<bool>
     ensures { IfSome result (λ b. is_link (command_meant {A = A} (parts_of text.now)) ≡ b) }
@@ -152,7 +152,8 @@ fn link_passes<A: Allocator>(text: &[u8]) -> Option<bool>
     }
 }
 
-// Whether it begins with a digit other than 8. Then its code, the first part, is not that of links.
+// Returns whether it begins with a digit other than 8. Then its code, the first part, is not that
+// of links.
 pub(crate) fn has_other_code(text: &[u8]) -> bool
     ensures { IsTrue result → BeginsOther text.now }
 {
@@ -162,8 +163,8 @@ pub(crate) fn has_other_code(text: &[u8]) -> bool
     first.is_ascii_digit() && *first != b'8'
 }
 
-// Whether the values of a control sequence are renditions; not known if the final byte is `m` and
-// the parameters are no plain ones.
+// Returns whether the values of a control sequence are renditions; not known if the final byte is
+// `m` and the parameters are no plain ones.
 #[tactic(auto, using(crate::proofs::Renditions::SequencesFromParameters::colours))]
 #[inline]
 fn color_passes(params: &[CsiParam], control: u8) -> Option<bool>
@@ -178,7 +179,7 @@ fn color_passes(params: &[CsiParam], control: u8) -> Option<bool>
     if are_plain(params) { Some(true) } else { None }
 }
 
-// The same, also for functions that change the screen alone.
+// Does the same, also for functions that change the screen alone.
 #[tactic(auto, using(crate::proofs::Renditions::SequencesFromParameters::screens))]
 #[inline]
 fn screen_passes(params: &[CsiParam], control: u8) -> Option<bool>
@@ -193,7 +194,7 @@ fn screen_passes(params: &[CsiParam], control: u8) -> Option<bool>
     if are_plain(params) { Some(true) } else { None }
 }
 
-// Whether it is characters, or a control that lays them out.
+// Returns whether it is characters, or a control that lays them out.
 #[inline]
 fn is_text<A: Allocator>(action: &Action<A>) -> bool
     ensures { result ≡ is_text (value_of action.now) }
@@ -206,8 +207,8 @@ fn is_text<A: Allocator>(action: &Action<A>) -> bool
     }
 }
 
-// Whether each character of this UTF-8 is shown: none of its bytes is DEL. Between words there is
-// often one alone.
+// Returns whether each character of this UTF-8 is shown: none of its bytes is DEL. Between words
+// there is often one alone.
 pub(crate) fn are_shown(text: &[u8]) -> bool
     ensures { result ≡ list_all is_shown text.now }
 {
@@ -217,14 +218,14 @@ pub(crate) fn are_shown(text: &[u8]) -> bool
     }
 }
 
-// Whether it is tab, line feed or carriage return.
+// Returns whether it is tab, line feed or carriage return.
 pub(crate) fn is_layout(code: char) -> bool
     ensures { result ≡ is_layout code }
 {
     code == '\t' || code == '\n' || code == '\r'
 }
 
-// Whether it is a rendition or a link.
+// Returns whether it is a rendition or a link.
 fn is_color<A: Allocator>(action: &Action<A>) -> bool
     ensures { result ≡ is_color (value_of action.now) }
 {
@@ -235,7 +236,7 @@ fn is_color<A: Allocator>(action: &Action<A>) -> bool
     }
 }
 
-// Whether it is a graphic rendition.
+// Returns whether it is a graphic rendition.
 fn is_rendition<A: Allocator>(csi: &CSI<A>) -> bool
     ensures { result ≡ is_rendition (csi_value csi.now) }
 {
@@ -248,7 +249,8 @@ fn is_rendition<A: Allocator>(csi: &CSI<A>) -> bool
     }
 }
 
-// Whether all are numbers, `;` or `:`. A number, and a colour of the palette, are seen at once.
+// Returns whether all are numbers, `;` or `:`. A number, and a colour of the palette, are seen at
+// once.
 #[inline]
 pub(crate) fn are_plain(params: &[CsiParam]) -> bool
     ensures { result ≡ list_all is_plain_param params.now }
@@ -266,7 +268,7 @@ pub(crate) fn are_plain(params: &[CsiParam]) -> bool
     }
 }
 
-// Whether it is a number, `;` or `:`.
+// Returns whether it is a number, `;` or `:`.
 fn is_plain_param(param: &CsiParam) -> bool
     ensures { result ≡ is_plain_param param.now }
 {

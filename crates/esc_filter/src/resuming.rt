@@ -23,9 +23,9 @@ pub struct ResumingFilter<P, A: Allocator = Global> {
     lines: LineFilter<P, A>,
     // the renditions that are on after the lines that have ended
     opening: String<A>,
-    // whether the last line has begun
+    // says whether the last line has begun
     is_open: bool,
-    // whether they are written again
+    // says whether they are written again
     resumes: bool,
 }
 
@@ -33,8 +33,9 @@ impl<P: Admit<A>, A: Allocator + Copy> ResumingFilter<P, A> {
     ghost use Rattle.esc_filter.specs.Lines.{AfterLines, OnLine};
     ghost use Rattle.esc_filter.specs.Resumed.{AddsResumed, AfterResumed, ClosesWith, EndsResumed, EndsWith, GrowsResumed, OnStream, ResumedHasConsumed, added_by, policy_of_resuming};
 
-    /// A filter at the beginning of a stream, as [`LineFilter::with_guard`] says. Renditions are
-    /// written again if `resumes` is true; else it is a [`LineFilter`]. Takes no memory.
+    /// Returns a filter at the beginning of a stream, as [`LineFilter::with_guard`] says.
+    /// Renditions are written again if `resumes` is true; else it is a [`LineFilter`]. Takes no
+    /// memory.
     pub fn new(
         alloc: A,
         limit: usize,
@@ -102,7 +103,7 @@ impl<P: Admit<A>, A: Allocator + Copy> ResumingFilter<P, A> {
         self.lines.finish()
     }
 
-    /// The text that the bytes fed last added.
+    /// Returns the text that the bytes fed last added.
     pub fn text(&self) -> &str
         ensures { result.now ≡ added_by self.now }
     {
@@ -191,7 +192,7 @@ impl<P: Admit<A>, A: Allocator + Copy> ResumingFilter<P, A> {
         }
     }
 
-    // At the beginning of a line, feeds the filter of lines the renditions that go on.
+    // Feeds the filter of lines the renditions that go on, at the beginning of a line.
     fn resume(&mut self) -> Result<(), AllocError>
         ensures given { OnStream P.Admit self.old (λ k u limit admits d. ends_line true d ≡ true
             → OnOk result (GrowsBy u admits limit d (opening_at k u limit admits d)

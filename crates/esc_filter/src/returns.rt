@@ -17,7 +17,7 @@ pub enum Returns {
 }
 
 impl Returns {
-    /// Whether nothing is written of the control.
+    /// Returns whether nothing is written of the control.
     #[inline]
     pub(crate) fn drops(self, code: ControlCode) -> bool
         ensures { IsTrue result → (self ≡ Returns.Drop) × (is_return code ≡ true) }
@@ -29,7 +29,7 @@ impl Returns {
     }
 }
 
-/// Whether it is a carriage return.
+/// Returns whether it is a carriage return.
 #[inline]
 pub(crate) fn is_return(code: ControlCode) -> bool
     ensures { result ≡ is_return code }

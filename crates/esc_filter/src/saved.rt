@@ -2,8 +2,8 @@
 ghost use Rattle.std.specs.Prelude.{◌≡◌};
 ghost use Rattle.esc_filter.specs.Terminal.{are_changed_sets, either_sets, is_changed_saved};
 
-/// Which character sets are not as at the start, with US-ASCII in G0 to G3, and whether another
-/// than G0 is in use.
+/// Says which character sets are not as at the start, with US-ASCII in G0 to G3, and whether
+/// another than G0 is in use.
 #[derive(Clone, Copy)]
 pub(crate) struct Sets {
     pub g0: bool,
@@ -14,7 +14,7 @@ pub(crate) struct Sets {
 }
 
 impl Sets {
-    /// As at the start.
+    /// The sets as at the start.
     pub const UNCHANGED: Sets = Sets {
         g0: false,
         g1: false,
@@ -23,7 +23,7 @@ impl Sets {
         shifted: false,
     };
 
-    /// Those that are changed here or there.
+    /// Returns the sets that are changed here or there.
     pub fn or(self, other: Sets) -> Sets
         ensures { result ≡ either_sets self other }
     {
@@ -36,7 +36,7 @@ impl Sets {
         }
     }
 
-    /// Whether any is not as at the start, or another than G0 is in use.
+    /// Returns whether any is not as at the start, or another than G0 is in use.
     pub fn are_changed(self) -> bool
         ensures { result ≡ are_changed_sets self }
     {
@@ -53,14 +53,14 @@ pub(crate) struct Saved {
 }
 
 impl Saved {
-    /// As at the start.
+    /// The state as at the start.
     pub const UNCHANGED: Saved = Saved {
         rendition: false,
         origin: false,
         sets: Sets::UNCHANGED,
     };
 
-    /// Whether it is not as at the start.
+    /// Returns whether it is not as at the start.
     pub fn is_changed(self) -> bool
         ensures { result ≡ is_changed_saved self }
     {

@@ -10,7 +10,8 @@ use esc_osc::OperatingSystemCommand;
 use esc_values::Items;
 use std::alloc::Allocator;
 
-/// Whether a text is a scheme: a letter, and then letters, digits, `+`, `-` and `.` (RFC 3986,
+/// Returns whether a text is a scheme: a letter, and then letters, digits, `+`, `-` and `.` (RFC
+/// 3986,
 /// 3.1).
 pub fn is_scheme(text: &str) -> bool
     ensures { result ≡ is_scheme text.now }
@@ -21,7 +22,7 @@ pub fn is_scheme(text: &str) -> bool
     }
 }
 
-// Whether each byte may come after the first of a scheme.
+// Returns whether each byte may come after the first of a scheme.
 fn are_scheme_bytes(bytes: &[u8]) -> bool
     ensures { result ≡ list_all is_scheme_byte bytes.now }
 {
@@ -34,8 +35,8 @@ fn is_scheme_byte(byte: &u8) -> bool
     byte.is_ascii_alphanumeric() || *byte == b'+' || *byte == b'-' || *byte == b'.'
 }
 
-// Whether the action is no link, the end of one, as a link without an address is, or a link whose
-// address has one of these schemes.
+// Returns whether the action is no link, the end of one, as a link without an address is, or a link
+// whose address has one of these schemes.
 pub(crate) fn leads<A: Allocator>(schemes: &Option<&str>, action: &Action<A>) -> bool
     ensures { result ≡ leads schemes.now (value_of action.now) }
 {
@@ -60,8 +61,8 @@ fn link_leads<A: Allocator>(schemes: &Option<&str>, command: &OperatingSystemCom
     }
 }
 
-// Whether an address in these parts, with the scheme in the first part, has one of these schemes.
-// It is true also if they are no address, or if there are none.
+// Returns whether an address in these parts, with the scheme in the first part, has one of these
+// schemes. It is true also if they are no address, or if there are none.
 fn parts_lead<A: Allocator>(parts: &[Items<u8, A>], schemes: &[u8]) -> bool
     ensures { result ≡ parts_lead parts.now schemes.now }
 {
@@ -71,7 +72,7 @@ fn parts_lead<A: Allocator>(parts: &[Items<u8, A>], schemes: &[u8]) -> bool
     }
 }
 
-// Whether the address has one of these schemes, between which there is `,`.
+// Returns whether the address has one of these schemes, between which there is `,`.
 fn has_one_scheme(address: &[u8], schemes: &[u8]) -> bool
     ensures { result ≡ has_one_scheme address.now schemes.now }
 {
@@ -80,7 +81,7 @@ fn has_one_scheme(address: &[u8], schemes: &[u8]) -> bool
         .any(|scheme| begins_with_scheme(address, scheme))
 }
 
-// Whether the address begins with this scheme and a colon.
+// Returns whether the address begins with this scheme and a colon.
 fn begins_with_scheme(address: &[u8], scheme: &[u8]) -> bool
     ensures { result ≡ has_scheme address.now scheme.now }
 {

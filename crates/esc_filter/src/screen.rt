@@ -15,7 +15,7 @@ use esc_sequences::{CSI, Esc};
 use esc_values::CsiParam;
 use std::alloc::Allocator;
 
-// Whether the action changes the screen alone.
+// Returns whether the action changes the screen alone.
 pub(crate) fn is_screen<A: Allocator>(action: &Action<A>) -> bool
     ensures { result ≡ is_screen (value_of action.now) }
 {
@@ -28,7 +28,8 @@ pub(crate) fn is_screen<A: Allocator>(action: &Action<A>) -> bool
     }
 }
 
-// Whether it is the code of a C0 control that changes the screen alone, or of BEL, SO or SI.
+// Returns whether it is the code of a C0 control that changes the screen alone, or of BEL, SO or
+// SI.
 #[inline]
 fn is_screen_control(code: u32) -> bool
     ensures { result ≡ is_screen_control code }
@@ -45,7 +46,7 @@ fn is_screen_escape(esc: Esc) -> bool
     }
 }
 
-// Whether an escape sequence of this function changes the screen alone.
+// Returns whether an escape sequence of this function changes the screen alone.
 pub(crate) fn escape_changes_with(function: EscapeFunction, esc: Esc) -> bool
     ensures { result ≡ escape_changes_with function esc }
 {
@@ -58,7 +59,8 @@ pub(crate) fn escape_changes_with(function: EscapeFunction, esc: Esc) -> bool
     }
 }
 
-// Whether its final byte names the graphics of DEC, the set of the United Kingdom or US-ASCII.
+// Returns whether its final byte names the graphics of DEC, the set of the United Kingdom or
+// US-ASCII.
 fn is_common_set(esc: Esc) -> bool
     ensures { result ≡ is_common_set esc }
 {
@@ -80,8 +82,8 @@ fn is_screen_sequence<A: Allocator>(csi: &CSI<A>) -> bool
     }
 }
 
-// The same for a sequence that has no name of its own. That the plain ones from ICH to DL change
-// the screen alone is known before the table is asked.
+// Does the same for a sequence that has no name of its own. That the plain ones from ICH to DL
+// change the screen alone is known before the table is asked.
 #[tactic(auto, using(crate::proofs::GivingBack::ScreenFunctions::plain_moves))]
 #[inline]
 pub(crate) fn is_screen_body(params: &[CsiParam], control: u8) -> bool
@@ -93,7 +95,7 @@ pub(crate) fn is_screen_body(params: &[CsiParam], control: u8) -> bool
     is_screen_function(params, control)
 }
 
-// The same, by the table of functions.
+// Does the same, by the table of functions.
 #[inline(never)]
 fn is_screen_function(params: &[CsiParam], control: u8) -> bool
     ensures { result ≡ is_screen_body params.now control }
@@ -104,14 +106,14 @@ fn is_screen_function(params: &[CsiParam], control: u8) -> bool
     }
 }
 
-// Whether the final byte is that of ICH, of a movement of the cursor, of ED, EL, IL or DL.
+// Returns whether the final byte is that of ICH, of a movement of the cursor, of ED, EL, IL or DL.
 fn is_move(control: u8) -> bool
     ensures { result ≡ is_from 0x40 0x4d control }
 {
     b'@' <= control && control <= b'M'
 }
 
-// Whether a function with these parameters changes the screen alone.
+// Returns whether a function with these parameters changes the screen alone.
 #[inline]
 pub(crate) fn changes_with(function: ControlFunction, params: &[CsiParam]) -> bool
     ensures { result ≡ changes_with function params.now }
@@ -126,7 +128,7 @@ pub(crate) fn changes_with(function: ControlFunction, params: &[CsiParam]) -> bo
     }
 }
 
-// Whether the parameters are the number of a mode that changes the screen alone.
+// Returns whether the parameters are the number of a mode that changes the screen alone.
 fn is_lone_mode(params: &[CsiParam]) -> bool
     ensures { result ≡ is_lone is_mode params.now }
 {
@@ -136,7 +138,7 @@ fn is_lone_mode(params: &[CsiParam]) -> bool
     }
 }
 
-// Whether it is the number of a mode that changes the screen alone.
+// Returns whether it is the number of a mode that changes the screen alone.
 fn is_mode(param: &CsiParam) -> bool
     ensures { result ≡ is_mode param.now }
 {
@@ -146,14 +148,16 @@ fn is_mode(param: &CsiParam) -> bool
     }
 }
 
-// Whether all are numbers of private modes that change the screen alone, or `;`, after the prefix.
+// Returns whether all are numbers of private modes that change the screen alone, or `;`, after the
+// prefix.
 fn are_private_modes(params: &[CsiParam]) -> bool
     ensures { result ≡ list_all is_private_mode params.now }
 {
     params.iter().all(is_private_mode)
 }
 
-// Whether it is the number of a private mode that changes the screen alone, the prefix, or `;`.
+// Returns whether it is the number of a private mode that changes the screen alone, the prefix, or
+// `;`.
 fn is_private_mode(param: &CsiParam) -> bool
     ensures { result ≡ is_private_mode param.now }
 {
@@ -165,7 +169,7 @@ fn is_private_mode(param: &CsiParam) -> bool
     }
 }
 
-// Whether the parameters are a space, before which there may be a number.
+// Returns whether the parameters are a space, before which there may be a number.
 fn is_shape(params: &[CsiParam]) -> bool
     ensures { result ≡ is_shape params.now }
 {
@@ -176,14 +180,14 @@ fn is_shape(params: &[CsiParam]) -> bool
     }
 }
 
-// Whether it is a space.
+// Returns whether it is a space.
 fn is_space(param: &CsiParam) -> bool
     ensures { result ≡ is_space param.now }
 {
     *param == CsiParam::P(b' ')
 }
 
-// Whether the command changes colours and asks for none.
+// Returns whether the command changes colours and asks for none.
 pub(crate) fn is_palette<A: Allocator>(command: &OperatingSystemCommand<A>) -> bool
     ensures { result ≡ is_palette command.now }
 {
@@ -197,7 +201,7 @@ pub(crate) fn is_palette<A: Allocator>(command: &OperatingSystemCommand<A>) -> b
     }
 }
 
-// Whether each is a place and a colour, and no question for one.
+// Returns whether each is a place and a colour, and no question for one.
 fn are_set_pairs(pairs: &[ChangeColorPair]) -> bool
     ensures { result ≡ list_all is_set_pair pairs.now }
 {
@@ -210,14 +214,14 @@ fn is_set_pair(pair: &ChangeColorPair) -> bool
     is_set(&pair.color)
 }
 
-// Whether each is a colour, and no question for one.
+// Returns whether each is a colour, and no question for one.
 fn are_set(colors: &[ColorOrQuery]) -> bool
     ensures { result ≡ list_all is_set colors.now }
 {
     colors.iter().all(is_set)
 }
 
-// Whether it is a colour, and no question for one.
+// Returns whether it is a colour, and no question for one.
 fn is_set(color: &ColorOrQuery) -> bool
     ensures { result ≡ is_set color.now }
 {

@@ -7,7 +7,7 @@ use crate::saved::{Saved, Sets};
 use control_functions::ControlFunction;
 use esc_values::CsiParam;
 
-/// Which screen is shown, and by which private mode the alternate one is.
+/// Says which screen is shown, and by which private mode the alternate one is.
 #[derive(Clone, Copy)]
 pub(crate) enum Screen {
     /// The main one.
@@ -23,25 +23,25 @@ pub(crate) enum Screen {
 /// A terminal, as far as it is not as at the start.
 #[derive(Clone, Copy)]
 pub(crate) struct Terminal {
-    /// Whether renditions may be on.
+    /// Says whether renditions may be on.
     pub rendition: bool,
-    /// Whether a link is open.
+    /// Says whether a link is open.
     pub link: bool,
-    /// Whether characters are inserted.
+    /// Says whether characters are inserted.
     pub insert: bool,
-    /// Whether the origin is that of the margins.
+    /// Says whether the origin is that of the margins.
     pub origin: bool,
-    /// Whether there are top and bottom margins.
+    /// Says whether there are top and bottom margins.
     pub margins: bool,
-    /// Whether there may be left and right ones.
+    /// Says whether there may be left and right ones.
     pub sides: bool,
-    /// Whether the cursor is hidden.
+    /// Says whether the cursor is hidden.
     pub hidden: bool,
-    /// Whether colours are reversed.
+    /// Says whether colours are reversed.
     pub reverse: bool,
-    /// Whether lines do not wrap.
+    /// Says whether lines do not wrap.
     pub no_wrap: bool,
-    /// Whether the screen is not drawn.
+    /// Says whether the screen is not drawn.
     pub held: bool,
     /// Its character sets.
     pub sets: Sets,
@@ -77,7 +77,7 @@ impl Screen {
 }
 
 impl Terminal {
-    /// As at the start.
+    /// Returns a terminal as at the start.
     pub fn unchanged() -> Terminal
         ensures { result ≡ unchanged }
     {
@@ -100,8 +100,8 @@ impl Terminal {
         }
     }
 
-    /// Whether anything is changed, but for the state saved on the alternate screen and the modes
-    /// that XTSAVE kept.
+    /// Returns whether anything is changed, but for the state saved on the alternate screen and the
+    /// modes that XTSAVE kept.
     #[inline]
     pub fn is_changed(&self) -> bool
         ensures { result ≡ is_changed self.now }
@@ -127,7 +127,7 @@ impl Terminal {
             || self.held
     }
 
-    /// A control sequence of this function and these parameters comes.
+    /// Changes the terminal by a control sequence of this function and these parameters.
     pub fn change(&mut self, function: ControlFunction, params: &[CsiParam])
         ensures { self.new ≡ after_function function params.now self.old }
     {
@@ -149,7 +149,7 @@ impl Terminal {
         }
     }
 
-    // The cursor is saved.
+    // Saves the cursor.
     pub fn save(&mut self)
         ensures { self.new ≡ save self.old }
     {
@@ -212,7 +212,7 @@ impl Terminal {
         }
     }
 
-    // The mode of ECMA-48 of this number is set, or reset.
+    // Sets the mode of ECMA-48 of this number, or resets it.
     fn set_mode(&mut self, number: u64, is_set: bool)
         ensures { self.new ≡ after_mode number is_set self.old }
     {
@@ -221,7 +221,7 @@ impl Terminal {
         }
     }
 
-    /// The private mode of this number is set, or reset.
+    /// Sets the private mode of this number, or resets it.
     pub fn set_private(&mut self, number: u64, is_set: bool)
         ensures { self.new ≡ after_private number is_set self.old }
     {
@@ -240,14 +240,14 @@ impl Terminal {
         }
     }
 
-    // The alternate screen is shown, by this mode, or the main one.
+    // Shows the alternate screen, by this mode, or the main one.
     fn show(&mut self, screen: Screen, is_set: bool)
         ensures { self.new ≡ screen_shown screen is_set self.old }
     {
         self.screen = if is_set { screen } else { Screen::Main };
     }
 
-    // The cursor is saved, or restored.
+    // Saves the cursor, or restores it.
     fn keep_cursor(&mut self, is_set: bool)
         ensures { self.new ≡ cursor_kept is_set self.old }
     {
@@ -258,8 +258,8 @@ impl Terminal {
         }
     }
 
-    // The cursor is saved and the alternate screen shown, or the main one is and the cursor
-    // restored.
+    // Saves the cursor and shows the alternate screen, or shows the main one and restores the
+    // cursor.
     pub fn show_with_cursor(&mut self, is_set: bool)
         ensures { self.new ≡ with_cursor is_set self.old }
     {

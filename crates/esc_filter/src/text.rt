@@ -4,7 +4,7 @@ ghost use Rattle.std.specs.Prelude.{◌≡◌, []};
 use esc_values::Text;
 use std::alloc::Allocator;
 
-/// The empty text, in the memory of this one.
+/// Returns the empty text, in the memory of this one.
 pub(crate) fn emptied<A: Allocator>(text: Text<A>) -> Text<A>
     ensures { result ≡ [] }
 {

@@ -22,7 +22,7 @@ pub enum Unicode {
 }
 
 impl Unicode {
-    /// Whether nothing is written of the character.
+    /// Returns whether nothing is written of the character.
     #[inline]
     pub(crate) fn drops(self, c: char) -> bool
         ensures { IsTrue result → (self ≡ Unicode.Drop) × (is_deceiving c ≡ true) }

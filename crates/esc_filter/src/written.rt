@@ -42,7 +42,7 @@ pub(crate) struct Written<A: Allocator = Global> {
     pub left: Terminal,
     /// The way in which deceiving text is written.
     pub guard: Guard,
-    /// Whether line feeds are dropped.
+    /// Says whether line feeds are dropped.
     pub by_lines: bool,
     /// The character that was written last, if a character was.
     pub before: Option<char>,
@@ -51,7 +51,7 @@ pub(crate) struct Written<A: Allocator = Global> {
 }
 
 impl<A: Allocator> Written<A> {
-    /// A writer of no action. Takes no memory.
+    /// Returns a writer of no action. Takes no memory.
     pub fn new(alloc: A, by_lines: bool, guard: Guard) -> Written<A>
         ensures text { result.spell.text ≡ [] }
         ensures noted { HasNoted by_lines guard [] result }
@@ -66,7 +66,7 @@ impl<A: Allocator> Written<A> {
         }
     }
 
-    /// The same without its text; the memory of the text is used again.
+    /// Does the same without its text; the memory of the text is used again.
     #[inline]
     pub fn emptied(self) -> Written<A>
         ensures { result ≡ without_text self }
@@ -109,7 +109,7 @@ impl<A: Allocator> Written<A> {
 }
 
 impl<A: Allocator> Written<A> {
-    /// Whether nothing is written of the action, since it deceives.
+    /// Returns whether nothing is written of the action, since it deceives.
     #[inline]
     pub fn drops(&self, action: &Action<A>) -> bool
         ensures { IsTrue result
@@ -123,7 +123,7 @@ impl<A: Allocator> Written<A> {
         }
     }
 
-    /// The same for a control, since it is a carriage return.
+    /// Does the same for a control, since it is a carriage return.
     #[inline]
     pub fn drops_control(&self, code: ControlCode) -> bool
         ensures { IsTrue result
@@ -133,7 +133,7 @@ impl<A: Allocator> Written<A> {
         self.guard.returns.drops(code)
     }
 
-    /// Whether each of the characters is written as it is, if it is seen at once.
+    /// Returns whether each of the characters is written as it is, if it is seen at once.
     #[inline]
     pub fn keeps(&self, text: &str) -> bool
         ensures { IsTrue result → AreKept self.now.guard self.now.before (chars text.now) }
@@ -467,7 +467,7 @@ impl<A: Allocator> Sink<Action<A>> for Written<A> {
     }
 }
 
-// The character that it is, if it is one.
+// Returns the character that it is, if it is one.
 #[inline]
 fn character_of<A: Allocator>(action: &Action<A>) -> Option<char>
     ensures { result ≡ character_of (value_of action.now) }
@@ -478,7 +478,7 @@ fn character_of<A: Allocator>(action: &Action<A>) -> Option<char>
     }
 }
 
-// The last of these characters of ASCII, or the one before them if there are none.
+// Returns the last of these characters of ASCII, or the one before them if there are none.
 #[inline]
 fn last_byte(before: Option<char>, text: &[u8]) -> Option<char>
     ensures { result ≡ last_of before text.now }
@@ -490,7 +490,7 @@ fn last_byte(before: Option<char>, text: &[u8]) -> Option<char>
     }
 }
 
-// Whether it is a line feed.
+// Returns whether it is a line feed.
 fn is_line_feed(code: ControlCode) -> bool
     ensures { result ≡ is_line_feed {A = Unit {0}} (control code) }
 {

@@ -1,4 +1,4 @@
--- What is kept of a string, and the limit on it.
+-- A limit bounds the bytes that are kept of a string.
 pub mod KeptWithinLimit
 pub mod ShortIsUnlimited
 pub mod KeepsLimit

@@ -1,4 +1,4 @@
--- One byte more: what the cut and the machine make of it.
+-- One byte more changes the cut and the machine.
 pub mod CutSteps
 pub mod CutGrows
 pub mod GroundMoves

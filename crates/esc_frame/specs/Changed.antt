@@ -1,4 +1,4 @@
--- What a call changes.
+-- A call changes a value.
 use Rattle.std.specs.Borrow.{MutBor}
 use denote.Triple.Both.{Both}
 

@@ -1,4 +1,4 @@
--- What the events of any stream can be, and texts that are one segment.
+-- The events of any stream have these forms, and these texts are one segment.
 use Rattle.std.specs.Prelude.{ℕ, ◌≡◌, true, false, ◌||◌, ◌&&◌, List, [], ◌∷◌}
 use Rattle.esc_values.specs.Clear.{is_clear, AreTextParts}
 use Rattle.esc_frame.specs.Classes.{class_of, AllOf, in_body, is_control, is_c1, is_intermediate, ends_escape, opens, ends_csi, is_put, is_text}
@@ -7,9 +7,9 @@ use Rattle.esc_frame.specs.Events.{Event}
 use Rattle.esc_frame.specs.Events.Event.{Print, Execute, EscDispatch, CsiDispatch, OscDispatch, DcsHook, DcsPut, DcsUnhook, ApcDispatch}
 use Rattle.esc_frame.specs.Segments.{Segment, HasShape, bytes_of, events_of, ends_itself, is_empty, escape_event, csi_event, hook_event}
 
--- a clear character; a control; intermediates and a final byte that opens nothing where no
--- intermediate stood; what a body of its form gives; clear parts, not one empty part; a byte of
--- data; a text of 20-7F
+-- says that an event has its form: a clear character; a control; intermediates and a final byte,
+-- which opens nothing if there is no intermediate; the parameters of a body of its form; clear
+-- parts, not one empty part; a byte of data; a text of 20-7F
 abbrev pub IsFit : Event → Type 0
 IsFit (Print c) = is_clear c ≡ true
 IsFit (Execute b) = (is_control (class_of b) || is_c1 (class_of b)) ≡ true

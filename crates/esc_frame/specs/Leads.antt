@@ -1,5 +1,5 @@
--- What is unfinished of a stream, and what the machine keeps of it. No contract of `VTParser` cites
--- it; the public relation is `HasConsumed` of Stream.
+-- These definitions say what a stream leaves unfinished, and what the machine keeps of it. No
+-- contract of `VTParser` cites them; the public relation is `HasConsumed` of Stream.
 use Rattle.std.specs.Prelude.{ℕ, ◌≡◌, true, false, if◌then◌else◌, List, [], ◌∷◌, ◌++◌, Option, None, length}
 use Rattle.std.specs.List.{flat_map}
 use Rattle.esc_frame.specs.declared.classes.Kind.{Kind}
@@ -65,8 +65,8 @@ AreFinished [] rest = Unit {0}
 AreFinished (g ∷ gs) rest = HasShape g (joined_bytes gs ++ rest)
     × (is_finished g (joined_bytes gs ++ rest) ≡ true) × AreFinished gs rest
 
--- what the machine keeps of the unfinished segment, of a string no more than the limit; `keeps`
--- says what its store keeps of a text
+-- says what the machine keeps of the unfinished segment, of a string no more than the limit;
+-- `keeps` says what its store keeps of a text
 abbrev pub Holds : {K A : Type 0} → (Option ℕ → K → List ℕ → Type 0) → Option ℕ → Machine K A
     → Unfinished → Type 0
 Holds keeps limit m Ground = (m.state ≡ state.Ground) × (prefix_of m.pending ≡ [])
@@ -87,7 +87,7 @@ Holds keeps limit m (InOsc o ps) = (m.state ≡ state.Osc) × keeps limit m.text
 Holds keeps limit m (InOscPending o ps f) = (m.state ≡ state.Osc) × keeps limit m.text (text_of ps)
     × (prefix_of m.pending ≡ f) × (is_empty f ≡ false)
 
--- the count of what is kept of it
+-- the number of bytes kept of it
 abbrev pub kept_open : Option ℕ → Unfinished → ℕ
 kept_open limit (InOsc o ps) = kept_within limit (length (text_of ps))
 kept_open limit (InOscPending o ps f) = kept_within limit (length (text_of ps))
@@ -95,14 +95,14 @@ kept_open limit (InApc o d) = kept_within limit (length (bytes_of_class is_text 
 kept_open limit (InDcs o x) = kept_within limit (header_count (without_noise x))
 kept_open limit _ = 0
 
--- what the finished segments have emitted
+-- the events that the finished segments have emitted
 abbrev pub finished_events_within : Option ℕ → List Segment → List Event
 finished_events_within limit gs = flat_map (λ g. events_of_within limit g true) gs
 
 abbrev pub finished_events : List Segment → List Event
 finished_events gs = finished_events_within None gs
 
--- what the unfinished segment has emitted
+-- the events that the unfinished segment has emitted
 abbrev pub emitted_open : Option ℕ → Unfinished → List Event
 emitted_open limit Ground = []
 emitted_open limit (Pending f) = []

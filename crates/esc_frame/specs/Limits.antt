@@ -24,7 +24,7 @@ pub record Counts (limit : Option ℕ) (c : Count) (n : ℕ) : Type 0 where
   pub count : c.is_over ≡ false → c.bytes ≡ min n most
   pub none : c.is_over ≡ true → c.bytes ≡ 0
 
--- what counts of a DCS's header, without its noise: its bytes 30-39 and 3B
+-- the count of a DCS's header without its noise: of its bytes 30-39 and 3B
 abbrev pub header_count : List ℕ → ℕ
 header_count x = length (filter is_dcs_parameter x)
 

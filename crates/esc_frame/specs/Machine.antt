@@ -1,6 +1,6 @@
--- What the code keeps of an unfinished segment, and what a byte makes of it. No public contract
--- cites these but through `HasConsumed` and the body of `events` in Stream; the laws say all that
--- the crates above use.
+-- These modules say what the code keeps of an unfinished segment, and how a byte changes it. Public
+-- contracts cite them only through `HasConsumed` and the body of `events` in Stream; the laws say
+-- all that the crates above use.
 pub mod Cells
 pub mod Prefixes
 pub mod Keeps

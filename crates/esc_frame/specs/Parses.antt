@@ -1,5 +1,6 @@
--- What a call of a parser promises. Here b are the bytes of the call, s is a stream that the parser
--- may have been fed before, and `self` and `actor` are each the value before the call and after it.
+-- These definitions say what a call of a parser promises. Here b are the bytes of the call, s is a
+-- stream that the parser may have been fed before, and `self` and `actor` are each the value before
+-- the call and after it.
 use Rattle.std.specs.Prelude.{ℕ, ◌≡◌, ◌<◌, ◌≤◌, ◌⊎◌, List, [], ◌∷◌, ◌++◌, take, length, min, slice_index, Option, Result, Err, OnOk, OnErr, IfOk, IfErr}
 use Rattle.std.specs.List.{FoldsTo}
 use Rattle.fallible_alloc.specs.Refusals.{Refused}
@@ -27,8 +28,9 @@ AfterGround p P = After p (λ limit s. IsAtGround s → P limit s)
 abbrev pub FirstByte : List ℕ → (ℕ → Type 0) → Type 0
 FirstByte b P = 0 < length b → P (slice_index b 0)
 
--- The actor may be given what b adds: it is ready for any event; or the parser has failed, and
--- gives none; or the actor awaits what b adds to a stream that the parser may have been fed.
+-- The actor may be given the events that b adds: it is ready for any event; or the parser has
+-- failed, and gives none; or the actor awaits the events that b adds to a stream that the parser
+-- may have been fed.
 abbrev pub MayGive : {A S : Type 0} → Actor S → VTParser A → List ℕ → S → Type 0
 MayGive V p b old = V.is_ready old ⊎ (HasFailed p ⊎ ((limit : Option ℕ) × (s : List ℕ)
     × HasConsumedWithin limit s p × Awaits V.may V.takes old (added_within limit s b)))
@@ -46,8 +48,8 @@ Feeds V limit s b self actor =
     HasConsumedWithin limit (s ++ b) self.exit.now
     × FoldsTo V.takes actor.entry.now (added_within limit s b) actor.exit.now
 
--- An error is `Memory`: of what b adds the actor was given a prefix, and refused the next event,
--- or the parser stopped by itself, which it does only for this reason.
+-- An error is `Memory`: the actor was given a prefix of the events that b adds, and refused the
+-- next one, or the parser stopped by itself, which it does only for this reason.
 abbrev pub StopsFor : {S T : Type 0} → Type 0 → Actor S → Result T ParseError → List ℕ
     → Changed S → Option ℕ → List ℕ
     → Type 0
@@ -62,7 +64,7 @@ abbrev pub IsRefused : {S T : Type 0} → Type 0 → Actor S → Result T ParseE
 IsRefused A V result b actor limit s =
     StopsFor (MayGrow (s ++ b) × Refused A) V result b actor limit s
 
--- What a call does with b, after s.
+-- A call takes all of b, after s.
 pub record Parses {S T : Type 0} (A : Type 0) (V : Actor S) (result : Result T ParseError)
     (b : List ℕ) (self : Changed (VTParser A)) (actor : Changed S) (limit : Option ℕ) (s : List ℕ)
     : Type 0 where
@@ -71,7 +73,7 @@ pub record Parses {S T : Type 0} (A : Type 0) (V : Actor S) (result : Result T P
   -- but for an error
   pub refused : IsRefused A V result b actor limit s
 
--- What a call does that takes a prefix of b, and returns its length.
+-- A call takes a prefix of b, and returns its length.
 pub record ParsesSome {S : Type 0} (A : Type 0) (V : Actor S) (result : Result ℕ ParseError)
     (b : List ℕ) (self : Changed (VTParser A)) (actor : Changed S) (limit : Option ℕ) (s : List ℕ)
     : Type 0 where
@@ -93,7 +95,7 @@ pub record TakesSome {S : Type 0} (result : Result ℕ ParseError) (b : List ℕ
   -- and where there is none, the actor is as it was
   pub empty : length b ≡ 0 → actor.exit.now ≡ actor.entry.now
 
--- what a call leaves
+-- says what a call leaves
 pub record Leaves {A S T : Type 0} (V : Actor S) (result : Result T ParseError)
     (self : Changed (VTParser A)) (actor : Changed S) : Type 0 where
   -- an error is for good
@@ -104,6 +106,6 @@ pub record Leaves {A S T : Type 0} (V : Actor S) (result : Result T ParseError)
   -- after a call without an error the actor is ready for any event, where it was before
   pub ready : V.is_ready actor.entry.now → OnOk result (V.is_ready actor.exit.now)
 
--- the count of what is kept of the last segment, up to the greatest that a `usize` holds
+-- says that n bytes are kept of the last segment, up to the greatest number of a `usize`
 abbrev pub IsKeptOf : ℕ → Option ℕ → List ℕ → Type 0
 IsKeptOf n limit s = (gs : List Segment) → IsCut s gs → n ≡ min (kept_of_cut limit gs) most

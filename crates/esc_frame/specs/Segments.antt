@@ -53,7 +53,7 @@ abbrev pub AreOscUnits : List OscUnit → List ℕ → Type 0
 AreOscUnits [] after = Unit {0}
 AreOscUnits (p ∷ ps) after = IsOscUnit p (text_bytes ps ++ after) × AreOscUnits ps after
 
--- what ends the text of an OSC: nothing yet, 07, or a sequence that may go on
+-- the end of the text of an OSC: nothing yet, 07, or a sequence that may go on
 pub data Ending : Type 0 where
   Open : Ending
   Rung : Ending
@@ -214,7 +214,7 @@ opener_events (Long n) = executes n
 opener_events Raw = []
 opener_events Pair = []
 
--- what an OSC keeps of its text
+-- the bytes that an OSC keeps of a unit
 abbrev pub kept_of : OscUnit → List ℕ
 kept_of (One b) = bytes_of_class is_text (b ∷ [])
 kept_of (Sequence x) = x
@@ -223,11 +223,11 @@ kept_of (BrokenOff x) = 0xef ∷ 0xbf ∷ 0xbd ∷ []
 abbrev pub text_of : List OscUnit → List ℕ
 text_of ps = flat_map kept_of ps
 
--- what an escape sequence with these intermediates dispatches
+-- the event of an escape sequence with these intermediates
 abbrev pub escape_event : List ℕ → ℕ → Event
 escape_event x f = EscDispatch (kept_intermediates x) (has_more_intermediates x) f
 
--- what a control sequence with this body dispatches: nothing where the body is of another form
+-- the event of a control sequence with this body; then its events, none for another form
 abbrev pub csi_event : List ℕ → ℕ → Event
 csi_event x f = CsiDispatch (kept_csi_params x) (has_more_csi_params x) f
 
@@ -242,8 +242,8 @@ hook_event x f = DcsHook f (dcs_params x) (kept_intermediates (dcs_intermediates
 abbrev pub puts : List ℕ → List Event
 puts d = map DcsPut (bytes_of_class is_put d)
 
--- what an OSC with this text, and an APC with these bytes, dispatches where it is finished: nothing
--- past the limit
+-- the events of a finished OSC with this text, and of an APC with these bytes: none past the
+-- limit
 abbrev pub osc_events : Option ℕ → List ℕ → List Event
 osc_events limit t = if is_within limit (length t) then OscDispatch (parts_of t) ∷ [] else []
 
@@ -281,7 +281,7 @@ events_of_cut_within limit (g ∷ []) = events_of_within limit g (ends_itself g)
 events_of_cut_within limit (g ∷ h ∷ gs) =
     events_of_within limit g true ++ events_of_cut_within limit (h ∷ gs)
 
--- what a stream emits: the events of its cut
+-- says that a stream has these events: those of its cut
 abbrev pub HasEventsWithin : Option ℕ → List ℕ → List Event → Type 0
 HasEventsWithin limit stream events = (gs : List Segment) × IsCut stream gs
     × (events ≡ events_of_cut_within limit gs)

@@ -15,12 +15,12 @@ use Rattle.esc_frame.specs.Machine.Moves.{after_all, events_all}
 unfoldable pub events_within : Option ℕ → List ℕ → List Event
 events_within limit s = events_all limit Ground s
 
--- what b adds to the events of s
+-- the events that b adds to those of s
 unfoldable pub added_within : Option ℕ → List ℕ → List ℕ → List Event
 added_within limit s b = drop (length (events_within limit s)) (events_within limit (s ++ b))
 
--- The stream may be what the parser was fed, which keeps no more of a string than the limit: it
--- keeps what is unfinished of the stream, and has not failed.
+-- The parser, which keeps no more of a string than the limit, may have been fed the stream: it
+-- keeps the stream's unfinished segment, and has not failed.
 unfoldable pub HasConsumedWithin : {A : Type 0} → Option ℕ → List ℕ → VTParser A → Type 0
 HasConsumedWithin limit s p = (p.has_failed ≡ false) × (p.machine.limit ≡ limit)
     × Holds KeepsText p.machine.limit p.machine (after_all Ground s)
@@ -33,12 +33,12 @@ HasFailed p = p.has_failed ≡ true
 abbrev pub IsAtGround : List ℕ → Type 0
 IsAtGround s = (gs : List Segment) × IsCut s gs × AreFinished gs []
 
--- The stream is finished segments, and then u. So u is the stream, or what is left of it after some
--- of its segments: at the least what is unfinished.
+-- The stream is finished segments, and then u. So u is the stream, or its rest after some of its
+-- segments; the shortest such rest is its unfinished part.
 abbrev pub IsAfterFinished : List ℕ → List ℕ → Type 0
 IsAfterFinished s u = (gs : List Segment) × (s ≡ joined_bytes gs ++ u) × AreFinished gs u
 
--- u is what is unfinished of the stream: nothing, or one segment, which does not end by itself
+-- says that u is the unfinished part of the stream: nothing, or a segment that does not end itself
 abbrev pub IsUnfinished : List ℕ → List ℕ → Type 0
 IsUnfinished s u =
     IsAfterFinished s u
@@ -63,6 +63,6 @@ HasConsumed s p = HasConsumedWithin None s p
 abbrev pub IsQuiet : List ℕ → List ℕ → ℕ → Type 0
 IsQuiet s b n = IsQuietWithin None s b n
 
--- These bytes have these events, and what follows them has its own, whatever it is.
+-- These bytes have these events, and any bytes after them have their own.
 abbrev pub Says : List ℕ → List Event → Type 0
 Says t es = (rest : List ℕ) → events (t ++ rest) ≡ es ++ events rest

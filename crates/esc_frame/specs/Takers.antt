@@ -1,4 +1,4 @@
--- What a call of a `EventSink` asks of it and promises.
+-- A call of an `EventSink` requires and promises this.
 use Rattle.std.specs.Prelude.{Result, OnOk, List, ◌⊎◌}
 use Rattle.esc_frame.specs.Events.{Event, Receives, Takes}
 

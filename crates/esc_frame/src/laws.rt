@@ -1,5 +1,5 @@
-//! Laws over all streams: a stream has one cut, its events are those of the cut, and what texts say
-//! whatever follows them.
+//! Laws over all streams say that a stream has one cut, that its events are those of the cut, and
+//! which texts give their events whatever follows them.
 #![tactic(auto)]
 
 ghost use Rattle.std.specs.Prelude.{◌≡◌, ◌++◌, ◌&&◌, ℕ, List, Option, [], ◌∷◌, true, false};
@@ -20,7 +20,7 @@ ghost use Rattle.esc_frame.specs.Memory.{may_grow, MayGrow, may_take, MayTake};
 
 use std::alloc::Allocator;
 
-/// Two cuts of a stream are one.
+/// Any two cuts of a stream are equal.
 #[tactic(auto, using(crate::proofs::Cut::CutIsUnique::one_cut))]
 pub fn one_cut()
     ensures { (stream : List ℕ) (gs hs : List Segment) → IsCut stream gs → IsCut stream hs
@@ -50,15 +50,15 @@ pub fn events_more()
     ensures { (s b : List ℕ) → events s ++ added_events s b ≡ events (s ++ b) }
 {}
 
-/// What two units add, one after another, is what they add together: no cut of the input into
-/// calls changes the events.
+/// The events that two chunks add one after another are those that they add joined: no division of
+/// the input into calls changes the events.
 #[tactic(auto, using(crate::proofs::Emits::EventsAreTheCuts::added_append))]
 pub fn added_append()
     ensures { (s b c : List ℕ) → added_events s (b ++ c) ≡ added_events s b
         ++ added_events (s ++ b) c }
 {}
 
-/// After a stream with nothing unfinished, bytes add their own events.
+/// Bytes after a stream with nothing unfinished add their own events.
 pub fn ground_added()
     ensures { (s b : List ℕ) → IsAtGround s → added_events s b ≡ events b }
 {}
@@ -79,20 +79,20 @@ pub fn events_of_the_cut_within()
     ensures { (limit : Option ℕ) (s : List ℕ) → HasEventsWithin limit s (events_within limit s) }
 {}
 
-/// A stream none of whose segments passes the limit has the events that it has without one.
+/// If no segment of a stream passes the limit, its events are those without a limit.
 pub fn same_within()
     ensures { (limit : Option ℕ) (s : List ℕ) (gs : List Segment) → IsCut s gs → AreWithin limit gs
         → events_within limit s ≡ events s }
 {}
 
-/// Under a limit the events of a prefix come first, and then those that the rest adds.
+/// Under a limit too, the events of a prefix come first, and then those that the rest adds.
 #[tactic(auto, using(crate::proofs::Emits::EventsAreTheCuts::events_more))]
 pub fn events_more_within()
     ensures { (limit : Option ℕ) (s b : List ℕ)
         → events_within limit s ++ added_within limit s b ≡ events_within limit (s ++ b) }
 {}
 
-/// Under a limit, what two units add, one after another, is what they add together.
+/// Under a limit too, two chunks one after another add what they add joined.
 #[tactic(auto, using(crate::proofs::Emits::EventsAreTheCuts::added_append))]
 pub fn added_append_within()
     ensures { (limit : Option ℕ) (s b c : List ℕ)
@@ -110,42 +110,42 @@ pub fn events_fit_within()
     ensures { (limit : Option ℕ) (s : List ℕ) → AreFit (events_within limit s) }
 {}
 
-/// Finished segments have no more to do with what follows them: a parser that was fed a stream is
-/// as one that was fed what is left of it after some of them. So each clause of a call holds of
-/// what is unfinished of the stream alone.
+/// Finished segments do not act on later bytes: a parser that was fed a stream is as one that was
+/// fed the stream without some of its first finished segments. So each clause of a call also holds
+/// with the stream's unfinished segment in place of the stream.
 #[tactic(auto, using(crate::proofs::Emits::FinishedIsForgotten::unfinished_alone))]
 pub fn unfinished_alone<A: Allocator>()
     ensures { (limit : Option ℕ) (s u : List ℕ) (p : VTParser A) → IsAfterFinished s u
         → HasConsumedWithin limit s p → HasConsumedWithin limit u p }
 {}
 
-/// And bytes add to a stream what they add to what is left of it.
+/// Bytes add to a stream what they add to its rest after finished segments.
 #[tactic(auto, using(crate::proofs::Emits::FinishedIsForgotten::added_alone))]
 pub fn added_alone()
     ensures { (limit : Option ℕ) (s u b : List ℕ) → IsAfterFinished s u
         → added_within limit s b ≡ added_within limit u b }
 {}
 
-/// Of every stream there is what is unfinished.
+/// Every stream has an unfinished part, which may be empty.
 #[tactic(auto, using(crate::proofs::Emits::FinishedIsForgotten::has_unfinished))]
 pub fn has_unfinished()
     ensures { (s : List ℕ) → (u : List ℕ) × IsUnfinished s u }
 {}
 
-/// No bytes say nothing.
+/// The empty text says no event.
 #[tactic(auto, using(crate::proofs::Emits::EventsAreTheCuts::says_nil))]
 pub fn says_nil()
     ensures { Says [] [] }
 {}
 
-/// Texts, one after another, say their events one after another.
+/// Joined texts say their events one after another.
 #[tactic(auto, using(crate::proofs::Emits::EventsAreTheCuts::says_append))]
 pub fn says_append()
     ensures { (t u : List ℕ) (es fs : List Event) → Says t es → Says u fs
         → Says (t ++ u) (es ++ fs) }
 {}
 
-/// What a text says are its events.
+/// The events that a text says are its events as a stream.
 pub fn says_events()
     ensures { (t : List ℕ) (es : List Event) → Says t es → events t ≡ es }
 {}
@@ -175,13 +175,13 @@ pub fn says_control()
     ensures { (b : ℕ) → is_control (class_of b) ≡ true → Says (b ∷ []) (Execute b ∷ []) }
 {}
 
-/// A C1 control that opens and ends nothing is executed, in UTF-8.
+/// A C1 control in UTF-8 that opens and ends nothing is executed.
 #[tactic(auto, using(crate::proofs::Emits::SegmentsSay::says_high_control))]
 pub fn says_high_control()
     ensures { (b : ℕ) → is_c1 (class_of b) ≡ true → Says (0xc2 ∷ b ∷ []) (Execute b ∷ []) }
 {}
 
-/// ESC, intermediates 20-2F and a final byte 30-7E are dispatched, where the final byte does not
+/// An escape sequence is dispatched: ESC, intermediates 20-2F and a final byte 30-7E that does not
 /// open a sequence.
 #[tactic(auto, using(crate::proofs::Emits::SequencesSay::says_escape))]
 pub fn says_escape()
@@ -198,8 +198,7 @@ pub fn says_csi()
         → ends_csi (class_of f) ≡ true → Says ((0x1b ∷ 0x5b ∷ x) ++ f ∷ []) (csi_event x f ∷ []) }
 {}
 
-/// A clear text as an operating system command with its string terminator is dispatched whole, in
-/// parts.
+/// An operating system command with a clear text and its string terminator is dispatched, in parts.
 #[tactic(auto, using(crate::proofs::Emits::StringsSay::says_osc))]
 pub fn says_osc()
     ensures { (t : List ℕ) → IsClearText t
@@ -207,8 +206,7 @@ pub fn says_osc()
         (OscDispatch (parts_of t) ∷ EscDispatch [] false 0x5c ∷ []) }
 {}
 
-/// A text of 20-7F as an application program command with its string terminator is dispatched
-/// whole.
+/// An application program command of 20-7F with its string terminator is dispatched whole.
 #[tactic(auto, using(crate::proofs::Emits::StringsSay::says_apc))]
 pub fn says_apc()
     ensures { (t : List ℕ) → AllOf is_text t
@@ -226,27 +224,27 @@ pub fn says_dcs()
         (((hook_event x f ∷ puts d) ++ DcsUnhook ∷ []) ++ EscDispatch [] false 0x5c ∷ []) }
 {}
 
-/// Whether a stream may make a parser's memory grow shows in its cut.
+/// The cut of a stream shows whether the stream may make a parser's memory grow.
 #[tactic(auto, using(crate::proofs::Limit::GrowingSegments::cut_grows))]
 pub fn cut_grows()
     ensures { (s : List ℕ) (gs : List Segment) → IsCut s gs → MayGrow s
         → list_any may_grow gs ≡ true }
 {}
 
-/// A stream that begins with one that may make a parser's memory grow may do so too.
+/// If a prefix of a stream may make a parser's memory grow, the stream may.
 #[tactic(auto, using(crate::proofs::Limit::GrowingSegments::more_grows))]
 pub fn more_grows()
     ensures { (s t : List ℕ) → MayGrow s → MayGrow (s ++ t) }
 {}
 
-/// Whether a stream holds what an actor may want memory for shows in its cut.
+/// The cut of a stream shows whether an actor may want memory for it.
 #[tactic(auto, using(crate::proofs::Limit::GrowingSegments::cut_takes))]
 pub fn cut_takes()
     ensures { (s : List ℕ) (gs : List Segment) → IsCut s gs → MayTake s
         → list_any may_take gs ≡ true }
 {}
 
-/// A stream that begins with one that holds it does so too.
+/// If a prefix of a stream holds such a segment, the stream does.
 #[tactic(auto, using(crate::proofs::Limit::GrowingSegments::more_takes))]
 pub fn more_takes()
     ensures { (s t : List ℕ) → MayTake s → MayTake (s ++ t) }

@@ -1,4 +1,4 @@
-//! The byte machine: what it keeps of the unfinished segment, and which function takes the next
+//! The byte machine keeps the unfinished segment, and chooses the function that takes the next
 //! bytes. Its methods are in a file for each kind of segment.
 #![tactic(auto)]
 
@@ -33,55 +33,55 @@ use crate::utf8::sequence::Pending;
 use esc_values::csi_param::CsiParam;
 use std::alloc::{AllocError, Allocator};
 
-/// The error is that the actor refused a call, or that a request for memory was refused.
+/// The error says that the actor refused a call, or that a request for memory was refused.
 pub type Result<T> = std::result::Result<T, AllocError>;
 
-/// Which segment is unfinished.
+/// The state says which segment is unfinished.
 #[derive(Clone, Copy)]
 pub enum State {
-    /// No sequence or string; a character in UTF-8 may be.
+    /// no sequence or string; a character in UTF-8 may be unfinished
     Ground,
-    /// After ESC.
+    /// an escape sequence, after ESC
     Escape,
-    /// In a control sequence.
+    /// a control sequence
     Csi,
-    /// In an operating system command.
+    /// an operating system command
     Osc,
-    /// In the header of a device control string.
+    /// a device control string, in its header
     Dcs,
-    /// In its data.
+    /// a device control string, in its data
     Data,
-    /// In what is passed over until a breaker.
+    /// a string that is passed over until a breaker
     Ignored,
-    /// In an application program command.
+    /// an application program command
     Apc,
 }
 
-/// The machine, between any two bytes of a stream, with a store for the text of an unfinished
-/// string. The parameters of a control sequence lie in it.
+/// The machine stands between any two bytes of a stream, with a store for the text of an unfinished
+/// string. It holds the parameters of a control sequence itself.
 #[derive(Drop)]
 pub struct Machine<K: TextRoom, A: Allocator> {
     pub state: State,
-    // the bytes of a UTF-8 sequence that has begun
+    // has the bytes of a UTF-8 sequence that has begun
     pub pending: Pending,
-    // the intermediates of an escape sequence
+    // has the intermediates of an escape sequence
     pub intermediates: Intermediates,
-    // the body of a control sequence
+    // has the body of a control sequence
     pub body: CsiBody,
-    // the parameters of a control sequence that is whole in a call's bytes
+    // has the parameters of a control sequence that is whole in a call's bytes
     pub short: [CsiParam; 32],
-    // the header of a DCS, but for its parameter bytes
+    // has the header of a DCS without its parameter bytes
     pub header: DcsHeader,
-    // what is kept of the text of an OSC or APC, or the parameter bytes of the header of a DCS
+    // keeps the text of an OSC or APC, or the parameter bytes of the header of a DCS
     pub text: K,
-    // where the calls that need memory take it
+    // gives memory to the calls that need it
     pub alloc: A,
-    // the most bytes that are kept of a string; no call changes it
+    // is the most bytes that are kept of a string; no call changes it
     pub limit: Option<usize>,
 }
 
 impl<K: TextRoom, A: Allocator + Copy> Machine<K, A> {
-    /// A machine at the beginning of a stream, which keeps no more of a string than the limit.
+    /// Returns a machine at the beginning of a stream. It keeps no more of a string than the limit.
     pub fn new(text: K, alloc: A, limit: Option<usize>) -> Self
         ensures holds { Holds K.keeps limit result Ground }
         ensures limit { result.limit ≡ limit }
@@ -101,7 +101,7 @@ impl<K: TextRoom, A: Allocator + Copy> Machine<K, A> {
 }
 
 impl<K: TextRoom, A: Allocator> Machine<K, A> {
-    /// Whether no segment is unfinished.
+    /// Returns whether no segment is unfinished.
     pub fn is_ground(&self) -> bool
         ensures known { (limit : Option ℕ) (u : Unfinished) → Holds K.keeps limit self.now u
             → IsTrue result ↔ (u ≡ Ground) }
@@ -122,7 +122,7 @@ impl<K: TextRoom, A: Allocator> Machine<K, A> {
         }
     }
 
-    /// How many bytes are kept of an unfinished text or header, as far as they count.
+    /// Returns how many bytes that count are kept of an unfinished text or header.
     pub fn kept(&self) -> usize
         ensures { (limit : Option ℕ) (u : Unfinished) → Holds K.keeps limit self.now u
             → result ≡ min (kept_open limit u) most }
@@ -192,7 +192,7 @@ impl<K: TextRoom, A: Allocator> Machine<K, A> {
         }
     }
 
-    /// Takes the bytes, one after another. After an error nothing is said of the machine.
+    /// Takes the bytes, one after another. After an error the contract says nothing of the machine.
     pub fn parse_all<V: EventSink>(&mut self, bytes: &[u8], actor: &mut V) -> Result<()>
         requires { V.is_ready actor.old ⊎ KeptSegment K.TextRoom self.old (λ u.
             Awaits V.may V.takes actor.old (events_all self.old.limit u bytes.now)) }
@@ -214,7 +214,8 @@ impl<K: TextRoom, A: Allocator> Machine<K, A> {
     }
 
     /// Takes a prefix of the bytes, at least one, and returns its length: all but the last emit
-    /// nothing and leave a segment unfinished. After an error nothing is said of the machine.
+    /// nothing and leave a segment unfinished. After an error the contract says nothing of the
+    /// machine.
     #[inline(always)]
     pub fn parse_until_event<V: EventSink>(&mut self, rest: &[u8], actor: &mut V) -> Result<usize>
         requires some { 0 < length rest.now }
@@ -254,7 +255,7 @@ impl<K: TextRoom, A: Allocator> Machine<K, A> {
         }
     }
 
-    // The next bytes of a character, a sequence or a string, out of the way of the code for ground.
+    // Takes bytes of a character, a sequence or a string, apart from the fast code for ground.
     #[inline(never)]
     fn parse_unfinished<V: EventSink>(&mut self, rest: &[u8], actor: &mut V) -> Result<usize>
         requires some { 0 < length rest.now }
@@ -277,7 +278,7 @@ impl<K: TextRoom, A: Allocator> Machine<K, A> {
         }
     }
 
-    /// One byte: not in an APC, nor between two units of an OSC.
+    /// Takes one byte: not in an APC, nor between two units of an OSC.
     pub fn parse_one<V: EventSink>(&mut self, rest: &[u8], actor: &mut V) -> Result<usize>
         requires some { 0 < length rest.now }
         requires ready { MayBeGiven V.EventSink (KeptSegment K.TextRoom self.old)
@@ -289,7 +290,7 @@ impl<K: TextRoom, A: Allocator> Machine<K, A> {
         self.step_after(rest, 0, actor)
     }
 
-    /// The byte after a run, so long, that was kept, if there is one.
+    /// Takes the byte, if there is one, after a run of this length that was kept.
     pub fn step_after<V: EventSink>(
         &mut self,
         rest: &[u8],

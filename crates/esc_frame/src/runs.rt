@@ -1,3 +1,3 @@
-//! Runs of bytes that are taken at once: where they end, and the characters that they print.
+//! Runs of bytes are taken at once: these modules find their ends, and print their characters.
 pub mod printing;
 pub mod scans;

@@ -1,4 +1,4 @@
-//! Receivers of the events of a machine.
+//! This module defines the trait of receivers of a machine's events.
 #![tactic(auto)]
 
 ghost use Rattle.std.specs.Prelude.{◌≡◌, ◌<◌, [], ◌∷◌, ℕ, List, map, not, true};
@@ -17,33 +17,33 @@ use crate::utf8::texts::first_of;
 use esc_values::csi_param::CsiParam;
 use std::alloc::{AllocError, Allocator};
 
-/// Receives the events of a machine, by the calls of a [`VTActor`]. Every `VTActor` is one. A type
-/// that takes the texts of strings as they are, and asks for no memory, can say so here, by
-/// `stops`, which a `VTActor` cannot: its default methods make lists. But for that each method asks
-/// and promises what the one of `VTActor` does.
+/// Receives the events of a machine, by the calls of a [`VTActor`]. Every `VTActor` is an event
+/// sink. A type that takes the texts of strings as they are, and asks for no memory, can say so by
+/// `stops`; a `VTActor` cannot, since its default methods make lists. Apart from that each method
+/// requires and promises what the one of `VTActor` does.
 pub trait EventSink {
-    // what an event may make of a value
+    // says what an event may make of a value
     ghost takes: { Self → Event → Self → Type 0 };
 
-    // what a refused call may leave
+    // says what a refused call may leave
     ghost refuses: { Self → Event → Self → Type 0 };
 
-    // any call may be made, and after each one any other
+    // says that any call may be made, and after each one any other
     ghost is_ready: { Self → Type 0 };
 
-    // the next call may be that of this event
+    // says that the next call may be that of this event
     ghost may: { Self → Event → Type 0 };
 
-    // why a call that was given this text and an allocator may stop by itself; the first argument
-    // says that the allocator refused a request
+    // says why a call that was given this text and an allocator may stop by itself; the first
+    // argument says that the allocator refused a request
     ghost stops: { Type 0 → List ℕ → Type 0 };
 
-    /// A character.
+    /// Receives a character.
     fn print(&mut self, c: char) -> Result<(), AllocError>
         requires { MayGetOne is_ready may self.old (Print c) }
         ensures { TakesOne takes refuses is_ready result self.old (Print c) self.new };
 
-    /// A run of characters 20 to 7F, one byte each, never empty.
+    /// Receives a run of characters 20 to 7F, one byte each, never empty.
     #[inline(always)]
     fn print_text(&mut self, text: &[u8]) -> Result<(), AllocError>
         requires ready { MayGet is_ready may takes self.old (map Print text.now) }
@@ -56,7 +56,7 @@ pub trait EventSink {
         Ok(())
     }
 
-    /// A run of characters as UTF-8, never empty: none is a control.
+    /// Receives a run of characters as UTF-8, never empty: none is a control.
     #[inline(always)]
     fn print_str(&mut self, text: &str) -> Result<(), AllocError>
         requires ready { MayGet is_ready may takes self.old (map Print (chars text.now)) }
@@ -74,12 +74,12 @@ pub trait EventSink {
         Ok(())
     }
 
-    /// A control of C0 or C1.
+    /// Receives a control of C0 or C1.
     fn execute_c0_or_c1(&mut self, control: u8) -> Result<(), AllocError>
         requires { MayGetOne is_ready may self.old (Execute control) }
         ensures { TakesOne takes refuses is_ready result self.old (Execute control) self.new };
 
-    /// A device control string begins, with its parameter bytes as they came.
+    /// Begins a device control string, with its parameter bytes as they came.
     fn dcs_header<A: Allocator + Copy>(
         &mut self,
         alloc: A,
@@ -94,12 +94,12 @@ pub trait EventSink {
             (hook_by byte parameters.now intermediates.now ignored_extra_intermediates ∷ [])
             self.new };
 
-    /// A byte of its data.
+    /// Receives a byte of its data.
     fn dcs_put(&mut self, byte: u8) -> Result<(), AllocError>
         requires { MayGetOne is_ready may self.old (DcsPut byte) }
         ensures { TakesOne takes refuses is_ready result self.old (DcsPut byte) self.new };
 
-    /// A run of its data, bytes 20 to 7E, never empty.
+    /// Receives a run of its data, bytes 20 to 7E, never empty.
     #[inline(always)]
     fn dcs_put_text(&mut self, bytes: &[u8]) -> Result<(), AllocError>
         requires ready { MayGet is_ready may takes self.old (map DcsPut bytes.now) }
@@ -113,12 +113,12 @@ pub trait EventSink {
         Ok(())
     }
 
-    /// It ends.
+    /// Ends the device control string.
     fn dcs_unhook(&mut self) -> Result<(), AllocError>
         requires { MayGetOne is_ready may self.old DcsUnhook }
         ensures { TakesOne takes refuses is_ready result self.old DcsUnhook self.new };
 
-    /// An escape sequence.
+    /// Receives an escape sequence.
     fn esc_dispatch(
         &mut self,
         params: &[i64],
@@ -132,7 +132,7 @@ pub trait EventSink {
         ensures { TakesOne takes refuses is_ready result self.old
             (EscDispatch intermediates.now ignored_extra_intermediates byte) self.new };
 
-    /// A control sequence.
+    /// Receives a control sequence.
     fn csi_dispatch(
         &mut self,
         params: &[CsiParam],
@@ -144,14 +144,14 @@ pub trait EventSink {
         ensures { TakesOne takes refuses is_ready result self.old
             (CsiDispatch params.now parameters_truncated byte) self.new };
 
-    /// The text of an operating system command, whole.
+    /// Receives the whole text of an operating system command.
     fn osc_text<A: Allocator>(&mut self, alloc: A, text: &[u8]) -> Result<(), AllocError>
         requires { MayGetOne is_ready may self.old (OscDispatch (parts_of text.now)) }
         ensures { TakesAll ((not (has_few_parts text.now) ≡ true) × stops (Refused A) text.now)
             takes refuses is_ready result self.old
             (OscDispatch (parts_of text.now) ∷ []) self.new };
 
-    /// The text of an application program command.
+    /// Receives the text of an application program command.
     fn apc_dispatch(&mut self, text: &[u8]) -> Result<(), AllocError>
         requires { MayGetOne is_ready may self.old (ApcDispatch text.now) }
         ensures { TakesOne takes refuses is_ready result self.old (ApcDispatch text.now) self.new };

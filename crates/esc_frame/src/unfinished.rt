@@ -1,5 +1,5 @@
-//! What is kept of an unfinished sequence or string: the intermediates of an escape sequence, the
-//! parameters of a control sequence, the header of a device control string, the text of a string.
+//! These modules keep an unfinished sequence or string: the intermediates of an escape sequence,
+//! the parameters of a control sequence, the header of a DCS, the text of a string.
 pub mod body;
 pub mod count;
 pub mod csi_params;

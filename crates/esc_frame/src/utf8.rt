@@ -1,3 +1,4 @@
-//! UTF-8 by Unicode's Table 3-7: the sequences of characters, whole, begun and broken.
+//! These modules read UTF-8 by Unicode's Table 3-7: whole, begun and broken sequences of
+//! characters.
 pub mod sequence;
 pub mod texts;

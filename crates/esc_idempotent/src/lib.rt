@@ -38,8 +38,8 @@ pub fn filters_twice<A: Allocator>()
     written_reads_back::<A>();
 }
 
-/// The same by lines, and if the renditions that go on are written again: none goes on over a line
-/// feed that was written.
+/// Does the same by lines, and if the renditions that go on are written again: none goes on over a
+/// line feed that was written.
 pub fn filters_lines_twice<A: Allocator>()
     ensures by_lines { (u : Guard) (limit again : ℕ) (f : Value A → Bool)
         → AdmitsInstead u f → AdmitsItsClosing f

@@ -1,4 +1,4 @@
--- What base64 decodes to is bytes.
+-- Base64 decodes to bytes.
 use Rattle.std.proofs.Common.{◌≡◌, ◌≢◌, ℕ, zero, suc, ◌+◌, ◌*◌, ◌<◌, Bool, true, nat_lt, ◌==◌, ◌||◌, List, [], ◌∷◌, length, take, drop, Option, Some}
 use Rattle.std.proofs.Common.{None, Result, Ok, Err, refl, arith, inl, inr, subst}
 use Rattle.std.specs.List.{slice_index, slice_set}

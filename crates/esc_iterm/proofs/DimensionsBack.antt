@@ -26,7 +26,7 @@ is_number c = (c == 45) || (nat_le 48 c && nat_le c 57)
 abbrev is_percent : ℕ → Bool
 is_percent c = (c == 37) || is_number c
 
--- what comes before the end of a text
+-- the text before the end of a text reads back
 end_back : (d e : List ℕ) → pointwise nat_eq e e ≡ true → before_end e (d ++ e) ≡ Some d
 end_back d e same =
     let len : length (d ++ e) - length e ≡ length d = omega (arith, length-append d e) in
@@ -90,7 +90,7 @@ dimension_back (Percent z) h =
     (end_back t (codes "%") refl)
     (ap (option_map Percent) (signed_back_64 z h))
 
--- what is read
+-- a dimension that was read fits
 measured_where : (p q : Option (List ℕ)) (t : List ℕ)
     → Where (λ d. IsDimension d) (measured_dimension p q t)
 measured_where (Some n) q t = where_map (λ z. IsSigned 64 z) (λ d. IsDimension d) Pixels (λ z h.

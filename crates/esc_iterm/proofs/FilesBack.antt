@@ -27,7 +27,7 @@ use Rattle.esc_iterm.proofs.KeyTexts.{is_key_plain, is_name, is_value, key_plain
 use Rattle.esc_iterm.proofs.Slices.{AreSlices, slice_plain, ended, pairs_back, file_of_ended, joined_ended, ended_some, ended_clear, slices_plain}
 use Rattle.esc_iterm.proofs.Slices.{written_slices}
 
--- what fits reads back
+-- a value that fits reads back
 kind_back : (k : Kind) (x : Of k) → Fits k x → read_as k (text_as k x) ≡ Some x
 kind_back Size None h = refl
 kind_back Size (Some n) h = ap Some (number_back 64 n h h)
@@ -40,7 +40,7 @@ kind_back (Flag true) false h = refl
 kind_back (Flag false) true h = refl
 kind_back (Flag false) false h = refl
 
--- what is read fits
+-- a value that was read fits
 automatic_where : (o : Option ITermDimension) → Where (λ d. IsDimension d) o
     → IsDimension (unwrap_or o Automatic)
 automatic_where None h = tt
@@ -56,7 +56,7 @@ kind_fits Dimension v = automatic_where (and_then v dimension_of)
     dimension_where t) v (anything v))
 kind_fits (Flag without) v = tt
 
--- the text of what fits has plain characters
+-- the text of a value that fits has plain characters
 kind_passes : (k : Kind) (x : Of k) → Fits k x → is_value (text_as k x) ≡ true
 kind_passes Size None h = refl
 kind_passes Size (Some n) h = decimal_passes is_key_plain refl n h
@@ -84,7 +84,7 @@ fields_back {A = A} f h =
     (values_of (written (entries file_fields f))) h
     (ap (texts_at (file_fields {A = A})) (written_values (entries file_fields f)))
 
--- the file of what is in the slices
+-- the file of the slices
 abbrev made : {A : Type 0} → Option (Pairs × List ℕ) → Option (ITermFileData A)
 made o = and_then o (λ (m : Pairs × List ℕ). file_with (values_of m.0) m.1)
 

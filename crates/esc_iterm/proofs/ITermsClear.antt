@@ -1,4 +1,4 @@
--- What clear parts mean is writable.
+-- A command that clear parts mean is writable.
 use Rattle.std.proofs.Common.{ℕ, ◌≡◌, ◌==◌, true, false, nat_eq, List, [], ◌∷◌, length, codes, Option, Some, None, sym, subst}
 use Rattle.std.specs.Cmp.Lexicographic.{pointwise}
 use Rattle.std.specs.List.{starts_with}

@@ -57,7 +57,7 @@ tenths_part n small =
     (part_append (0x2e ∷ []) (decimal (n % 10)) (plain_part (0x2e ∷ []) refl)
     (decimal_part (n % 10) (omega arith)))
 
--- what is read has 32 bits
+-- says that a number that was read has 32 bits
 abbrev pub IsSmall : ℕ → Type 0
 IsSmall n = n < 2 ^ 32
 

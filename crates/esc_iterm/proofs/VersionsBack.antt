@@ -1,4 +1,4 @@
--- What is done to the version of Unicode is a clear part that reads back.
+-- An operation on the version of Unicode is a clear part that reads back.
 use Rattle.std.proofs.Common.{ℕ, ◌≡◌, ◌≢◌, ◌<◌, ◌^◌, nat_eq, false, List, [], ◌∷◌, get_or, codes, Option, Some, None, lit<, refl, ap, arith}
 use Rattle.std.specs.Cmp.Lexicographic.{pointwise}
 use Rattle.std.specs.Fmt.{decimal}
@@ -66,7 +66,7 @@ version_part A (version.Push l) h =
 version_part A (version.Pop l) h =
     part_append (codes "pop") (label_text l) (plain_part (codes "pop") refl) (label_part l h)
 
--- what clear parts are read as
+-- says that clear parts are read as a writable operation
 abbrev Good : (A : Type 0) → ITermUnicodeVersionOp A → Type 0
 Good A v = IsVersion {A = A} v
 

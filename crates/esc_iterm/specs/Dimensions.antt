@@ -7,12 +7,13 @@ use Rattle.esc_values.specs.Scalars.{some_if, signed_of, IsSigned}
 use Rattle.esc_iterm.specs.declared.dimension.ITermDimension.{ITermDimension}
 use Rattle.esc_iterm.specs.declared.dimension.ITermDimension.TheVariants.{Automatic, Cells, Pixels, Percent}
 
--- what comes before this end of a text; none where the text does not end so
+-- the text before this end of a text; none if the text does not end so
 abbrev pub before_end : List ℕ → List ℕ → Option (List ℕ)
 before_end e t =
     some_if (pointwise nat_eq (drop (length t - length e) t) e) (take (length t - length e) t)
 
--- by what comes before `px`, else by what comes before `%`, else by the text: a number of 64 bits
+-- the dimension of the text before `px`, else of the text before `%`, else of the text: a number
+-- of 64 bits
 abbrev pub measured_dimension : Option (List ℕ) → Option (List ℕ) → List ℕ → Option ITermDimension
 measured_dimension (Some n) p t = option_map Pixels (signed_of 64 n)
 measured_dimension None (Some n) t = option_map Percent (signed_of 64 n)

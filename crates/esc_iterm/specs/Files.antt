@@ -26,8 +26,8 @@ slice_pairs p = pairs_in (without_empty (p ∷ []))
 abbrev pub last_pairs : List ℕ → Option Pairs
 last_pairs p = if is_some (cut_at 0x3d p) then pairs_in (p ∷ []) else Some []
 
--- The pairs of the slices, and what follows the first `:` of the last slice. None where there is no
--- slice, the last one has no `:`, or one does not fit.
+-- These are the pairs of the slices, and the bytes after the first `:` of the last slice. There are
+-- none if there is no slice, the last one has no `:`, or one does not fit.
 abbrev pub pairs_of : List (List ℕ) → Option (Pairs × List ℕ)
 pairs_of [] = None
 pairs_of (p ∷ []) =
@@ -40,7 +40,7 @@ pairs_of (p ∷ q ∷ ps) = and_then (slice_pairs p) (λ es.
 abbrev pub size_in : Option (List ℕ) → ITermDimension
 size_in v = unwrap_or (and_then v dimension_of) Automatic
 
--- whether a value is not `0`, where there is one, else what it is without the key
+-- says whether a value is not `0`; `without` says it if there is none
 abbrev pub is_set : Bool → Option (List ℕ) → Bool
 is_set without None = without
 is_set without (Some v) = not (pointwise nat_eq v (codes "0"))
@@ -51,12 +51,12 @@ written_dimension (Cells n) = Some (dimension_text (Cells n))
 written_dimension (Pixels n) = Some (dimension_text (Pixels n))
 written_dimension (Percent n) = Some (dimension_text (Percent n))
 
--- the text of a flag that differs from what it is without the key
+-- the text of a flag that differs from the one that is read without the key
 abbrev pub flag_value : Bool → Bool → Option (List ℕ)
 flag_value true x = some_if (not x) (codes "0")
 flag_value false x = some_if x (codes "1")
 
--- the kinds of values; `Flag` has what it is without the key
+-- a kind of value; `Flag` has the value that is read without the key
 pub data Kind : Type 0 where
   Size Name Dimension : Kind
   Flag : Bool → Kind
@@ -148,8 +148,8 @@ file_with v t = and_then (base64_of t) (file_in v)
 abbrev pub file_from : {A : Type 0} → List (List ℕ) → Option (ITermFileData A)
 file_from ps = and_then (pairs_of ps) (λ (m : Pairs × List ℕ). file_with (values_of m.0) m.1)
 
--- The file of the parts after the code `1337`. The first begins with `File=`; what follows that,
--- and each further part, is a slice.
+-- This is the file of the parts after the code `1337`. The first begins with `File=`; the bytes
+-- after that, and each further part, are slices.
 abbrev pub file_of : {A : Type 0} → List (List ℕ) → Option (ITermFileData A)
 file_of [] = None
 file_of (p ∷ ps) = if starts_with nat_eq p (codes "File=") then file_from (drop 5 p ∷ ps) else None
@@ -163,7 +163,7 @@ abbrev pub pieces_after : Bool → List (List ℕ) → List ℕ
 pieces_after true ps = joined ps
 pieces_after false ps = separated_parts ps
 
--- the text of a file, which is what follows `1337;`
+-- the text of a file, after `1337;`
 abbrev pub file_text : {A : Type 0} → ITermFileData A → List ℕ
 file_text f =
     codes "File=" ++ (joined (key_slices (entries file_fields f)) ++ 0x3a ∷ base64_text f.content)

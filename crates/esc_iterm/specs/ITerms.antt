@@ -1,5 +1,4 @@
--- iTerm2's proprietary commands: how the parts after their code are read, and what is written of
--- them.
+-- iTerm2's proprietary commands are read from the parts after their code, and written.
 use Rattle.std.specs.Prelude.{ℕ, ◌==◌, Bool, true, false, nat_eq, if◌then◌else◌, List, [], ◌∷◌, ◌++◌, length, codes, Option, Some, None}
 use Rattle.std.specs.Cmp.Lexicographic.{pointwise}
 use Rattle.std.specs.List.{starts_with}
@@ -96,8 +95,8 @@ form_from t (Some e) more = keyed_word e.0 e.1 more
 abbrev pub form_of : {A : Type 0} → List ℕ → List (List ℕ) → Option (ITermProprietary A)
 form_of t more = form_from t (key_and_value t) more
 
--- What the parts after the code mean; none where they fit no form. The keyword is that of the lossy
--- text of the first part. `File=` is ASCII, so it begins the lossy text just where it begins the
+-- The parts after the code mean this; none if they fit no form. The keyword is that of the lossy
+-- text of the first part. `File=` is ASCII, so it begins the lossy text exactly if it begins the
 -- part.
 abbrev pub iterm_of : {A : Type 0} → List (List ℕ) → Option (ITermProprietary A)
 iterm_of [] = None
@@ -114,7 +113,7 @@ abbrev pub scale_text : Option ℕ → List ℕ
 scale_text None = codes ""
 scale_text (Some s) = 0x3b ∷ tenths_text s
 
--- what follows `1337;`
+-- the text after `1337;`
 abbrev pub form_text : {A : Type 0} → ITermProprietary A → List ℕ
 form_text iterm.SetMark = codes "SetMark"
 form_text iterm.StealFocus = codes "StealFocus"
@@ -134,6 +133,6 @@ form_text (iterm.SetBadgeFormat t) = codes "SetBadgeFormat=" ++ base64_text t
 form_text (iterm.File d) = file_text d
 form_text (iterm.UnicodeVersion v) = codes "UnicodeVersion=" ++ version_text v
 
--- what is written between `ESC ]` and the terminator
+-- the text between `ESC ]` and the string terminator
 abbrev pub iterm_text : {A : Type 0} → ITermProprietary A → List ℕ
 iterm_text c = codes "1337;" ++ form_text c

@@ -37,7 +37,7 @@ file_keys = map (λ f. f.key) (file_fields {A = Unit {0}})
 abbrev pub held : Values → List (Option (List ℕ))
 held v = map v file_keys
 
--- those after these pairs, and what follows the pairs
+-- the values after these pairs, and the bytes after the pairs
 abbrev pub held_after : Values → Option (Pairs × List ℕ)
     → Option (List (Option (List ℕ)) × List ℕ)
 held_after v o = option_map (λ (m : Pairs × List ℕ). (held (values_after v m.0), m.1)) o

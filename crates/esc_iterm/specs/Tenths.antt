@@ -11,7 +11,7 @@ tenth_of [] = Some 0
 tenth_of (d ∷ []) = some_if (is_digit d) (d - 0x30)
 tenth_of (d ∷ e ∷ ds) = None
 
--- the tenths of the digits before the point and what follows it, where they have 32 bits
+-- the tenths of the digits before the point and after it, if they have 32 bits
 abbrev pub tenths_in : List ℕ → List ℕ → Option ℕ
 tenths_in whole tenth = and_then (number_in 32 whole) (λ n.
     and_then (tenth_of tenth) (λ d. some_if (nat_lt (10 * n + d) (2 ^ 32)) (10 * n + d)))

@@ -1,4 +1,4 @@
--- What is done to the version of Unicode whose widths are used.
+-- An operation changes the version of Unicode whose widths are used.
 use Rattle.std.specs.Prelude.{ℕ, nat_eq, if◌then◌else◌, List, ◌∷◌, ◌++◌, codes, Option, Some, None}
 use Rattle.std.specs.Cmp.Lexicographic.{pointwise}
 use Rattle.std.specs.Fmt.{decimal}
@@ -35,7 +35,7 @@ abbrev pub label_text : Option (List ℕ) → List ℕ
 label_text None = codes ""
 label_text (Some l) = 0x20 ∷ l
 
--- what is written of it
+-- the text of an operation
 abbrev pub version_text : {A : Type 0} → ITermUnicodeVersionOp A → List ℕ
 version_text (version.Set n) = decimal n
 version_text (version.Push l) = codes "push" ++ label_text l

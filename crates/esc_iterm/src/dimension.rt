@@ -1,4 +1,4 @@
-//! The width or the height at which a file is shown
+//! This module defines the width or the height at which a file is shown
 //! (<https://iterm2.com/documentation-images.html>).
 ghost use Rattle.std.specs.Prelude.{◌≡◌, ◌*◌, ◌^◌, ◌++◌, nat_lt, IsTrue, ◌↔◌, Some};
 ghost use Rattle.std.specs.Fmt.{DisplaysOnOk, signed_decimal};
@@ -14,25 +14,25 @@ use esc_values::scalar::read_i64;
 use std::fmt;
 use std::str::FromStr;
 
-/// The width or the height at which a file is shown (iTerm2's documentation, "Inline Images
-/// Protocol").
+/// A dimension is the width or the height at which a file is shown (iTerm2's documentation, "Inline
+/// Images Protocol").
 ///
 /// Its text is `auto`, or a number, followed by `px` for pixels, `%` for a percentage of the window
 /// and nothing for cells. The number is one of an `i64` in decimal: at least one ASCII digit, with
 /// a `-`, a `+` or no sign before them.
 #[derive(Clone, Copy, Debug, PartialEq, Eq)]
 pub enum ITermDimension {
-    /// As large as the file itself is.
+    /// The file's own size.
     Automatic,
-    /// So many cells of characters; a negative number counts as 0.
+    /// A number of cells of characters; a negative one counts as 0.
     Cells(i64),
-    /// So many pixels; a negative number counts as 0.
+    /// A number of pixels; a negative one counts as 0.
     Pixels(i64),
-    /// This percentage of the window, held within 0 to 100.
+    /// A percentage of the window, held within 0 to 100.
     Percent(i64),
 }
 
-/// `Automatic`.
+/// Returns `Automatic`.
 impl Default for ITermDimension {
     ghost is_default = { λ d. d ≡ Automatic };
 
@@ -41,7 +41,7 @@ impl Default for ITermDimension {
     }
 }
 
-/// Reads the text of a dimension. The error is `Invalid`, for a text that is none.
+/// Reads the text of a dimension. The error is `Invalid`, for any other text.
 impl FromStr for ITermDimension {
     type Err = Error;
 
@@ -55,7 +55,7 @@ impl FromStr for ITermDimension {
     }
 }
 
-// The dimension that a text names.
+// Returns the dimension that a text names.
 pub(crate) fn read_dimension(text: &[u8]) -> Option<ITermDimension>
     ensures { result ≡ dimension_of text.now }
 {
@@ -71,7 +71,7 @@ pub(crate) fn read_dimension(text: &[u8]) -> Option<ITermDimension>
     read_cells(text)
 }
 
-// So many pixels.
+// Reads a number of pixels.
 fn read_pixels(number: &[u8]) -> Option<ITermDimension>
     ensures { result ≡ option_map Pixels (signed_of 64 number.now) }
 {
@@ -81,7 +81,7 @@ fn read_pixels(number: &[u8]) -> Option<ITermDimension>
     }
 }
 
-// A percentage.
+// Reads a percentage.
 fn read_percent(number: &[u8]) -> Option<ITermDimension>
     ensures { result ≡ option_map Percent (signed_of 64 number.now) }
 {
@@ -91,7 +91,7 @@ fn read_percent(number: &[u8]) -> Option<ITermDimension>
     }
 }
 
-// So many cells.
+// Reads a number of cells.
 fn read_cells(number: &[u8]) -> Option<ITermDimension>
     ensures { result ≡ option_map Cells (signed_of 64 number.now) }
 {
@@ -101,8 +101,7 @@ fn read_cells(number: &[u8]) -> Option<ITermDimension>
     }
 }
 
-/// Writes the text of the dimension, which reads back. Where it returns `Ok`, all of it was
-/// written.
+/// Writes the text of the dimension, which reads back. If it returns `Ok`, all of it was written.
 impl fmt::Display for ITermDimension {
     ghost output = { λ d. Some (dimension_text d) };
 
@@ -116,7 +115,7 @@ impl fmt::Display for ITermDimension {
     }
 }
 
-// A number and its unit.
+// Writes a number and its unit.
 fn write_with_unit<W: fmt::Write>(number: i64, unit: &str, f: &mut fmt::Formatter<W>) -> fmt::Result
     ensures { DisplaysOnOk W.write_str_gives f.old result
         (Some (signed_decimal number ++ unit.now)) f.new }
@@ -126,10 +125,10 @@ fn write_with_unit<W: fmt::Write>(number: i64, unit: &str, f: &mut fmt::Formatte
 }
 
 impl ITermDimension {
-    /// How many pixels it is, where a cell has `cell_size` pixels in this direction and the window
-    /// has `num_cells` cells: none where it is automatic; so many times `cell_size` for cells; the
-    /// number itself for pixels; for a percentage that part of the window, rounded down. The caller
-    /// has seen that it fits, by `fits_pixels`.
+    /// Returns the number of pixels, if a cell has `cell_size` pixels in this direction and the
+    /// window has `num_cells` cells: none if it is automatic; that many times `cell_size` for
+    /// cells; the number itself for pixels; for a percentage that part of the window, rounded down.
+    /// The caller has seen that it fits, by `fits_pixels`.
     pub fn to_pixels(&self, cell_size: usize, num_cells: usize) -> Option<usize>
         requires { FitsPixels self.now cell_size num_cells }
         ensures { result ≡ pixels_of self.now cell_size num_cells }
@@ -141,16 +140,16 @@ impl ITermDimension {
         }
     }
 
-    /// Whether `to_pixels` may be asked with these sizes: whether the product that it needs fits a
-    /// `usize`, which has 64 bits. That is the product of the cells and their size; of a
-    /// percentage, the number of cells and their size, before it is divided by 100.
+    /// Returns whether `to_pixels` may be called with these sizes: whether the product that it
+    /// needs fits a `usize`, which has 64 bits. That is the product of the cells and their size;
+    /// for a percentage, of the number of cells and their size, before it is divided by 100.
     pub fn fits_pixels(&self, cell_size: usize, num_cells: usize) -> bool
         ensures { IsTrue result ↔ FitsPixels self.now cell_size num_cells }
     {
         self.product(cell_size, num_cells).is_some()
     }
 
-    // The product that has to fit, where it does.
+    // Returns the product that has to fit, if it does.
     fn product(&self, cell_size: usize, num_cells: usize) -> Option<usize>
         ensures { result ≡ some_if (nat_lt (pixels_product self.now cell_size num_cells) (2 ^ 64))
             (pixels_product self.now cell_size num_cells) }
@@ -166,21 +165,21 @@ impl ITermDimension {
     }
 }
 
-// The number, or 0 where it is negative.
+// Returns the number, or 0 if it is negative.
 fn not_negative(number: i64) -> usize
     ensures { result ≡ not_negative number }
 {
     if number < 0 { 0 } else { number as usize }
 }
 
-// The number, held within 0 to 100.
+// Returns the number, held within 0 to 100.
 fn percentage(number: i64) -> usize
     ensures { result ≡ percentage number }
 {
     not_negative(number).min(100)
 }
 
-// The product, where it fits. The product of the first two may not fit where the whole is 0.
+// Returns the product, if it fits. The product of the first two may not fit though the whole is 0.
 fn product_of_three(a: usize, b: usize, c: usize) -> Option<usize>
     ensures { result ≡ some_if (nat_lt (a * b * c) (2 ^ 64)) (a * b * c) }
 {

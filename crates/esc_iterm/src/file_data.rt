@@ -1,4 +1,5 @@
-//! Files that are sent to the terminal (<https://iterm2.com/documentation-images.html>).
+//! This module defines files that are sent to the terminal
+//! (<https://iterm2.com/documentation-images.html>).
 ghost use Rattle.std.specs.Prelude.{◌≡◌, IfOk, OnErr, map, Some};
 ghost use Rattle.esc_iterm.specs.Files.{file_of, file_text, plain_file};
 ghost use Rattle.fallible_alloc.specs.Refusals.{Refused};
@@ -10,31 +11,31 @@ use esc_values::{Items, Text};
 use std::alloc::{AllocError, Allocator, Global};
 use std::fmt;
 
-/// A file that is sent to the terminal, to be stored or shown (iTerm2's documentation, "Inline
-/// Images Protocol").
+/// A file is sent to the terminal, to be stored or shown (iTerm2's documentation, "Inline Images
+/// Protocol").
 #[derive(Drop)]
 #[derive_where(Debug, PartialEq, Eq)]
 pub struct ITermFileData<A: Allocator = Global> {
-    /// Its name, where it has one.
+    /// Its name, if it has one.
     pub name: Option<Text<A>>,
-    /// Its size in bytes, where it is given. It need not be that of the content.
+    /// Its size in bytes, if it is given. It need not be that of the content.
     pub size: Option<usize>,
     /// The width at which it is shown.
     pub width: ITermDimension,
     /// The height at which it is shown.
     pub height: ITermDimension,
-    /// Whether its width and height keep their ratio.
+    /// Says whether its width and height keep their ratio.
     pub preserve_aspect_ratio: bool,
-    /// Whether it is shown. Where it is not, it is stored.
+    /// Says whether it is shown. If not, it is stored.
     pub inline: bool,
-    /// Whether the cursor stays where it is.
+    /// Says whether the cursor stays at its cell.
     pub do_not_move_cursor: bool,
-    /// What it holds.
+    /// Its content.
     pub content: Items<u8, A>,
 }
 
 impl<A: Allocator> ITermFileData<A> {
-    /// The file that holds a copy of these bytes: with no name and no size, both dimensions
+    /// Returns the file that holds a copy of these bytes: with no name and no size, both dimensions
     /// automatic, its ratio kept, not inline, and with the cursor moved. The error is that memory
     /// was refused.
     pub fn new(alloc: A, content: &[u8]) -> Result<ITermFileData<A>, AllocError>
@@ -44,8 +45,8 @@ impl<A: Allocator> ITermFileData<A> {
         Ok(ITermFileData::with_content(Items::from_slice(alloc, content)?))
     }
 
-    /// The file that holds these bytes, else as [`new`](ITermFileData::new) makes it, without
-    /// taking memory.
+    /// Returns the file that holds these bytes, else as [`new`](ITermFileData::new) makes it. Takes
+    /// no memory.
     pub fn with_content(content: Items<u8, A>) -> ITermFileData<A>
         ensures { result ≡ plain_file content }
     {
@@ -63,18 +64,18 @@ impl<A: Allocator> ITermFileData<A> {
 }
 
 impl<A: Allocator + Copy> ITermFileData<A> {
-    /// Reads a file from the parts of an operating system command after its code `1337`; none where
+    /// Reads a file from the parts of an operating system command after its code `1337`; none if
     /// they are no file. The error is that memory was refused.
     ///
-    /// The first part begins with `File=`. The slices are what follows that, and each further part.
-    /// The last slice has a `:`, and after its first `:` the content in base64; before it, and in
-    /// each other slice, is a key with its value after the first `=`, as texts. An empty slice is
-    /// skipped, and so is a last slice without `=`. Of a key that comes more than once the last
+    /// The first part begins with `File=`. The slices are the bytes after that, and each further
+    /// part. The last slice has a `:`, and after its first `:` the content in base64; before it,
+    /// and in each other slice, is a key with its value after the first `=`, as texts. An empty
+    /// slice is skipped, and so is a last slice without `=`. If a key comes more than once its last
     /// value counts; unknown keys are skipped.
     ///
     /// `name` is a base64 text, `size` a number, `width` and `height` are dimensions; one that
     /// cannot be read counts as absent. `preserveAspectRatio` is true unless it is `0`; `inline`
-    /// and `doNotMoveCursor` are true where they are there and not `0`.
+    /// and `doNotMoveCursor` are true if they are there and not `0`.
     pub fn parse(alloc: A, args: &[&[u8]]) -> Result<Option<Self>, AllocError>
         ensures ok { IfOk result (λ f. f ≡ file_of (map (λ p. p.now) args.now)) }
         ensures refused { OnErr result (Refused A) }
@@ -84,8 +85,8 @@ impl<A: Allocator + Copy> ITermFileData<A> {
 }
 
 /// Writes `File=`; the keys `size`, `name`, `width`, `height`, `preserveAspectRatio`, `inline` and
-/// `doNotMoveCursor` with their values, `;` between them, in this order and each only where its
-/// value differs from what it is without the key; `:`, and the content in base64. Where it returns
+/// `doNotMoveCursor` with their values, `;` between them, in this order and each only if its value
+/// differs from the one that is read without the key; `:`, and the content in base64. If it returns
 /// `Ok`, all of it was written.
 impl<A: Allocator> fmt::Display for ITermFileData<A> {
     ghost output = { λ f. Some (file_text f) };

@@ -1,8 +1,8 @@
-//! The keys of a file, as they are read.
+//! This module holds the keys of a file, as they are read.
 ghost use Rattle.std.specs.Prelude.{◌≡◌, [], ◌∷◌};
 ghost use Rattle.esc_iterm.specs.Keys.{held, values, values_after};
 
-// The values of the keys of a file, where they are there.
+// These are the values of the keys of a file, if they are there.
 #[derive(Clone, Copy)]
 pub(crate) struct FileKeys<'a> {
     pub(crate) name: Option<&'a str>,
@@ -15,7 +15,7 @@ pub(crate) struct FileKeys<'a> {
 }
 
 impl<'a> FileKeys<'a> {
-    // The same, with this value in place of the one that the key had.
+    // Returns the values with this one in place of the one that the key had.
     pub(crate) fn with(self, key: &str, value: &'a str) -> FileKeys<'a>
         ensures { held (values result)
             ≡ held (values_after (values self.entry) ((key.now, value.now) ∷ [])) }

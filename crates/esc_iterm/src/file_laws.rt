@@ -1,4 +1,4 @@
-//! Laws of files: what is written reads back, and what is read can be written.
+//! Laws of files say that a written file reads back, and that a read file can be written.
 ghost use Rattle.std.specs.Prelude.{◌≡◌, List, ℕ, Some};
 ghost use Rattle.esc_iterm.specs.Dimensions.{dimension_of, dimension_text, IsDimension};
 ghost use Rattle.esc_iterm.specs.Files.{file_of, FileBack, IsWritableFile};
@@ -19,7 +19,7 @@ pub fn file_back<A: Allocator>()
     ensures { (f : ITermFileData A) → IsWritableFile f → FileBack f }
 {}
 
-/// What parts are read as has only numbers of 64 bits, bytes, and a name that is a text.
+/// A file that parts are read as has only numbers of 64 bits, bytes, and a name that is a text.
 pub fn file_is_writable<A: Allocator>()
     ensures { (args : List (List ℕ)) → (f : ITermFileData A) → file_of args ≡ Some f
         → IsWritableFile f }

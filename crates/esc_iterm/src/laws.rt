@@ -1,5 +1,5 @@
-//! Laws of iTerm2's proprietary commands: what is written reads back, and what clear parts mean can
-//! be written.
+//! Laws of iTerm2's proprietary commands say that a written command reads back, and that the
+//! command of clear parts can be written.
 ghost use Rattle.std.specs.Prelude.{◌≡◌, List, ℕ, Some};
 ghost use Rattle.esc_values.specs.Clear.{AreClearParts};
 ghost use Rattle.esc_iterm.specs.ITerms.{iterm_of};
@@ -15,7 +15,7 @@ pub fn writes_back<A: Allocator>()
     ensures { (c : ITermProprietary A) → IsWritableITerm c → WritesBack c }
 {}
 
-/// What clear parts mean is writable.
+/// A command that clear parts mean is writable.
 #[tactic(auto, using(crate::proofs::ITermsClear::clear_is_writable))]
 pub fn clear_is_writable<A: Allocator>()
     ensures { (args : List (List ℕ)) → AreClearParts args → (c : ITermProprietary A)

@@ -1,5 +1,5 @@
-//! iTerm2's proprietary commands: their values, how the parts after their code are read, and how a
-//! value is written.
+//! This crate has iTerm2's proprietary commands: their values, a reader of the parts after their
+//! code, and a writer.
 //!
 //! The standards: iTerm2's documentation, "Proprietary Escape Codes"
 //! (<https://iterm2.com/documentation-escape-codes.html>) and "Inline Images Protocol"

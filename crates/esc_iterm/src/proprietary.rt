@@ -1,11 +1,12 @@
-//! iTerm2's proprietary commands (<https://iterm2.com/documentation-escape-codes.html>).
+//! This module defines iTerm2's proprietary commands
+//! (<https://iterm2.com/documentation-escape-codes.html>).
 use crate::file_data::ITermFileData;
 use crate::unicode_version::ITermUnicodeVersionOp;
 use esc_values::{Boxed, Text};
 use std::alloc::{Allocator, Global};
 
-/// A proprietary command of iTerm2: the operating system command 1337 (iTerm2's documentation,
-/// "Proprietary Escape Codes").
+/// This is a proprietary command of iTerm2: the operating system command 1337 (iTerm2's
+/// documentation, "Proprietary Escape Codes").
 #[derive(Drop)]
 #[derive_where(Debug, PartialEq, Eq)]
 pub enum ITermProprietary<A: Allocator = Global> {
@@ -15,43 +16,43 @@ pub enum ITermProprietary<A: Allocator = Global> {
     StealFocus,
     /// Forgets the lines that have scrolled off.
     ClearScrollback,
-    /// The directory that the shell works in.
+    /// Names the directory that the shell works in.
     CurrentDir(Text<A>),
     /// Changes the session's profile to that of this name.
     SetProfile(Text<A>),
     /// Puts the text that follows, up to `EndCopy`, into this pasteboard: `rule`, `find`, `font`,
-    /// or the general one where the name is empty.
+    /// or the general one if the name is empty.
     CopyToClipboard(Text<A>),
     /// Ends the text that `CopyToClipboard` began.
     EndCopy,
-    /// Whether the line of the cursor is highlighted.
+    /// Says whether the line of the cursor is highlighted.
     HighlightCursorLine(bool),
     /// Asks for the size of a cell.
     RequestCellSize,
-    /// The size of a cell, as the terminal reports it.
+    /// Reports the size of a cell, as the terminal does.
     ReportCellSize {
         /// The height of a cell, in tenths of a pixel.
         height_pixels: u32,
         /// The width of a cell, in tenths of a pixel.
         width_pixels: u32,
-        /// How many pixels of the display a pixel is, in tenths; none where it was not reported.
+        /// The number of the display's pixels in a pixel, in tenths; none if it was not reported.
         scale: Option<u32>,
     },
-    /// Puts this text into the general pasteboard. Written in base64.
+    /// Puts this text into the general pasteboard. It is written in base64.
     Copy(Text<A>),
-    /// Asks for the value of the variable of this name. Written in base64; it has no reading.
+    /// Asks for the value of the variable of this name. It is written in base64, and is never read.
     ReportVariable(Text<A>),
     /// Sets a variable.
     SetUserVar {
-        /// The name of the variable. One that reads back has no `=`.
+        /// The name of the variable. A name that reads back has no `=`.
         name: Text<A>,
-        /// Its value. Written in base64.
+        /// Its value, written in base64.
         value: Text<A>,
     },
-    /// Sets the format of the session's badge. Written in base64.
+    /// Sets the format of the session's badge. It is written in base64.
     SetBadgeFormat(Text<A>),
-    /// A file to download, or a picture to show.
+    /// Sends a file to download, or a picture to show.
     File(Boxed<ITermFileData<A>, A>),
-    /// Sets, keeps or brings back the version of Unicode by which characters have their widths.
+    /// Sets, keeps or brings back the version of Unicode that gives characters their widths.
     UnicodeVersion(ITermUnicodeVersionOp<A>),
 }

@@ -1,4 +1,4 @@
-//! How the parts after the code are read.
+//! This module reads the parts after the code.
 ghost use Rattle.std.specs.Prelude.{◌≡◌, IfOk, OnErr, map, Some, None};
 ghost use Rattle.std.specs.Str.Lossy.{utf8_lossy};
 ghost use Rattle.esc_iterm.specs.ITerms.{lone_keyword, assigned_keyword, bare_keyword, cell_size, content_of, form_of, highlight_of, iterm_of, keyed_word, variable_of, with_one, with_two};
@@ -22,8 +22,8 @@ use esc_values::{Boxed, Text};
 use std::alloc::{AllocError, Allocator};
 
 impl<A: Allocator + Copy> ITermProprietary<A> {
-    /// The command that the parts after the code `1337` mean, where they fit one. The error is that
-    /// memory was refused.
+    /// Returns the command that the parts after the code `1337` mean, if they fit one. The error is
+    /// that memory was refused.
     pub fn parse(alloc: A, args: &[&[u8]]) -> Result<Option<ITermProprietary<A>>, AllocError>
         ensures ok { IfOk result (λ c. c ≡ iterm_of (map (λ p. p.now) args.now)) }
         ensures refused { OnErr result (Refused A) }
@@ -38,7 +38,7 @@ impl<A: Allocator + Copy> ITermProprietary<A> {
     }
 }
 
-// A file.
+// Reads a file.
 fn read_file<A: Allocator + Copy>(
     alloc: A,
     args: &[&[u8]],
@@ -53,7 +53,7 @@ fn read_file<A: Allocator + Copy>(
     }
 }
 
-// Every other form, of the lossy text of the first part and the parts after it.
+// Reads every other form, from the lossy text of the first part and the parts after it.
 fn read_lossy<A: Allocator + Copy>(
     alloc: A,
     first: &[u8],
@@ -71,7 +71,7 @@ fn read_lossy<A: Allocator + Copy>(
     }
 }
 
-// Every other form, of the first part as a text and the parts after it.
+// Reads every other form, from the first part as a text and the parts after it.
 fn read_form<A: Allocator + Copy>(
     alloc: A,
     first: &str,
@@ -86,7 +86,7 @@ fn read_form<A: Allocator + Copy>(
     }
 }
 
-// A first part without `=`, and the parts after it.
+// Reads a first part without `=`, and the parts after it.
 fn read_bare<A: Allocator + Copy>(
     alloc: A,
     key: &str,
@@ -102,7 +102,7 @@ fn read_bare<A: Allocator + Copy>(
     }
 }
 
-// A keyword alone.
+// Reads a keyword alone.
 fn read_alone<A: Allocator>(key: &str) -> Option<ITermProprietary<A>>
     ensures { result ≡ lone_keyword key.now }
 {
@@ -116,7 +116,7 @@ fn read_alone<A: Allocator>(key: &str) -> Option<ITermProprietary<A>>
     }
 }
 
-// A first part with `=`, cut there, and the parts after it.
+// Reads a first part with `=`, cut there, and the parts after it.
 fn read_keyed<A: Allocator + Copy>(
     alloc: A,
     key: &str,
@@ -134,7 +134,7 @@ fn read_keyed<A: Allocator + Copy>(
     }
 }
 
-// A keyword and its argument in one part.
+// Reads a keyword and its argument in one part.
 fn read_assigned<A: Allocator + Copy>(
     alloc: A,
     key: &str,
@@ -155,7 +155,7 @@ fn read_assigned<A: Allocator + Copy>(
     }
 }
 
-// A form with a text as it is.
+// Reads a form with a text as it is.
 fn read_plain<A: Allocator>(
     alloc: A,
     form: TextForm,
@@ -167,7 +167,7 @@ fn read_plain<A: Allocator>(
     Ok(Some(form.with_text(Text::from_str(alloc, text)?)))
 }
 
-// A form with a text in base64.
+// Reads a form with a text in base64.
 fn read_encoded<A: Allocator>(
     alloc: A,
     form: TextForm,
@@ -182,7 +182,7 @@ fn read_encoded<A: Allocator>(
     }
 }
 
-// A version of Unicode.
+// Reads a version of Unicode.
 fn read_unicode_version<A: Allocator + Copy>(
     alloc: A,
     text: &[u8],
@@ -196,7 +196,7 @@ fn read_unicode_version<A: Allocator + Copy>(
     }
 }
 
-// `yes` or `no`.
+// Reads `yes` or `no`.
 fn read_highlight<A: Allocator>(value: &str) -> Option<ITermProprietary<A>>
     ensures { result ≡ highlight_of value.now }
 {
@@ -207,7 +207,7 @@ fn read_highlight<A: Allocator>(value: &str) -> Option<ITermProprietary<A>>
     }
 }
 
-// The name of a variable and its value in base64.
+// Reads the name of a variable and its value in base64.
 fn read_variable<A: Allocator + Copy>(
     alloc: A,
     text: &str,
@@ -224,7 +224,7 @@ fn read_variable<A: Allocator + Copy>(
     }
 }
 
-// A variable of this name and this value.
+// Returns the command that sets a variable of this name to this value.
 fn set_variable<A: Allocator>(
     alloc: A,
     name: &str,
@@ -237,7 +237,7 @@ fn set_variable<A: Allocator>(
     Ok(Some(ITermProprietary::SetUserVar { name, value }))
 }
 
-// A keyword and its argument in the first part, and one part more.
+// Reads a keyword and its argument in the first part, and one more part.
 fn read_with_one<A: Allocator + Copy>(
     alloc: A,
     key: &str,
@@ -256,7 +256,7 @@ fn read_with_one<A: Allocator + Copy>(
     read_content(alloc, key, second)
 }
 
-// A keyword, and a base64 text in the next part.
+// Reads a keyword, and a base64 text in the next part.
 fn read_content<A: Allocator + Copy>(
     alloc: A,
     key: &str,
@@ -272,7 +272,7 @@ fn read_content<A: Allocator + Copy>(
     }
 }
 
-// A keyword and its argument in the first part, and two parts more.
+// Reads a keyword and its argument in the first part, and two more parts.
 fn read_with_two<A: Allocator>(
     key: &str,
     value: &str,
@@ -290,7 +290,7 @@ fn read_with_two<A: Allocator>(
     read_cell_size(value.as_bytes(), second, Some(scale))
 }
 
-// A height, a width and the scale that was found.
+// Reads a height and a width, with the scale that was found.
 fn read_cell_size<A: Allocator>(
     height: &[u8],
     width: &[u8],

@@ -1,4 +1,4 @@
-//! How files are read.
+//! This module reads files.
 ghost use Rattle.std.specs.Prelude.{◌≡◌, ℕ, List, [], ◌∷◌, IfOk, OnErr, Option, map};
 ghost use Rattle.std.specs.Option.{option_map};
 ghost use Rattle.esc_values.specs.Base64.{base64_text_of};
@@ -16,7 +16,7 @@ use esc_values::scalar::read_usize;
 use esc_values::{Items, Text};
 use std::alloc::{AllocError, Allocator};
 
-// The file that the parts after the code are.
+// Reads the file that the parts after the code are.
 pub(crate) fn read_file<A: Allocator + Copy>(
     alloc: A,
     args: &[&[u8]],
@@ -33,7 +33,7 @@ pub(crate) fn read_file<A: Allocator + Copy>(
     read_from(alloc, first, rest)
 }
 
-// The file of the slices.
+// Reads the file of the slices.
 fn read_from<A: Allocator + Copy>(
     alloc: A,
     first: &[u8],
@@ -48,7 +48,7 @@ fn read_from<A: Allocator + Copy>(
     }
 }
 
-// The values of the keys, and what follows the first `:` of the last slice.
+// Reads the values of the keys, and the bytes after the first `:` of the last slice.
 fn read_slices<'a>(first: &'a [u8], rest: &[&'a [u8]]) -> Option<(FileKeys<'a>, &'a [u8])>
     ensures { option_map {U = List (Option (List ℕ)) × List ℕ}
         (λ r. (held (values r.0), r.1.now)) result
@@ -74,7 +74,7 @@ fn read_slices<'a>(first: &'a [u8], rest: &[&'a [u8]]) -> Option<(FileKeys<'a>, 
     read_end(keys, slice)
 }
 
-// The values, and those of the last slice, and what follows its first `:`.
+// Adds the values of the last slice, and returns the bytes after its first `:` too.
 fn read_end<'a>(keys: FileKeys<'a>, slice: &'a [u8]) -> Option<(FileKeys<'a>, &'a [u8])>
     ensures { option_map {U = List (Option (List ℕ)) × List ℕ}
         (λ r. (held (values r.0), r.1.now)) result
@@ -89,7 +89,7 @@ fn read_end<'a>(keys: FileKeys<'a>, slice: &'a [u8]) -> Option<(FileKeys<'a>, &'
     }
 }
 
-// The values, and those of a slice before the last.
+// Adds the values of a slice before the last.
 fn read_slice<'a>(keys: FileKeys<'a>, slice: &'a [u8]) -> Option<FileKeys<'a>>
     ensures { option_map (λ k. held (values k)) result
         ≡ option_map (λ es. held (values_after (values keys.entry) es)) (slice_pairs slice.now) }
@@ -103,7 +103,7 @@ fn read_slice<'a>(keys: FileKeys<'a>, slice: &'a [u8]) -> Option<FileKeys<'a>>
     }
 }
 
-// The values, and those of the last slice.
+// Adds the values of the last slice.
 fn read_last<'a>(keys: FileKeys<'a>, slice: &'a [u8]) -> Option<FileKeys<'a>>
     ensures { option_map (λ k. held (values k)) result
         ≡ option_map (λ es. held (values_after (values keys.entry) es)) (last_pairs slice.now) }
@@ -117,7 +117,7 @@ fn read_last<'a>(keys: FileKeys<'a>, slice: &'a [u8]) -> Option<FileKeys<'a>>
     }
 }
 
-// The file of these values, where the content is base64.
+// Returns the file of these values, if the content is base64.
 fn make_file<A: Allocator + Copy>(
     alloc: A,
     keys: FileKeys<'_>,
@@ -132,7 +132,7 @@ fn make_file<A: Allocator + Copy>(
     }
 }
 
-// The file of these values and this content.
+// Returns the file of these values and this content.
 fn fill_file<A: Allocator>(
     alloc: A,
     keys: FileKeys<'_>,
@@ -153,7 +153,7 @@ fn fill_file<A: Allocator>(
     }))
 }
 
-// The text of a name, where there is one in base64.
+// Returns the text of a name, if there is one in base64.
 fn read_name<A: Allocator>(alloc: A, value: Option<&str>) -> Result<Option<Text<A>>, AllocError>
     ensures ok { IfOk result
         (λ t. t ≡ and_then (option_map (λ v. v.now) value.entry) base64_text_of) }
@@ -165,7 +165,7 @@ fn read_name<A: Allocator>(alloc: A, value: Option<&str>) -> Result<Option<Text<
     }
 }
 
-// The size, where there is one that can be read.
+// Returns the size, if there is one that can be read.
 fn read_size(value: Option<&str>) -> Option<usize>
     ensures { result ≡ and_then (option_map (λ v. v.now) value.entry) (number_of 64) }
 {
@@ -175,7 +175,7 @@ fn read_size(value: Option<&str>) -> Option<usize>
     }
 }
 
-// The dimension, automatic where there is none that can be read.
+// Returns the dimension, automatic if there is none that can be read.
 fn read_dimension_in(value: Option<&str>) -> ITermDimension
     ensures { result ≡ size_in (option_map (λ v. v.now) value.entry) }
 {
@@ -188,7 +188,7 @@ fn read_dimension_in(value: Option<&str>) -> ITermDimension
     }
 }
 
-// Whether a value is not `0`, where there is one.
+// Returns whether a value is not `0`; `without` if there is none.
 fn is_set(without: bool, value: Option<&str>) -> bool
     ensures { result ≡ is_set without (option_map (λ v. v.now) value.entry) }
 {

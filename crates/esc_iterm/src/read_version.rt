@@ -1,4 +1,4 @@
-//! How the version of Unicode is read.
+//! This module reads the version of Unicode.
 ghost use Rattle.std.specs.Prelude.{◌≡◌, IfOk, OnErr, Some, if◌then◌else◌};
 ghost use Rattle.esc_iterm.specs.Versions.{labelled_version, unlabelled_version, version_of};
 ghost use Rattle.esc_iterm.specs.declared.unicode_version.ITermUnicodeVersionOp.TheVariants as op;
@@ -10,7 +10,7 @@ use esc_values::cut::cut;
 use esc_values::scalar::{read_u8, text_in};
 use std::alloc::{AllocError, Allocator};
 
-// `push` or `pop`, with or without a label after the first space, or a number.
+// Reads `push` or `pop`, with or without a label after the first space, or a number.
 pub(crate) fn read_version<A: Allocator + Copy>(
     alloc: A,
     text: &[u8],
@@ -24,7 +24,7 @@ pub(crate) fn read_version<A: Allocator + Copy>(
     }
 }
 
-// A word and a label.
+// Reads a word and a label.
 fn read_labelled<A: Allocator + Copy>(
     alloc: A,
     word: &[u8],
@@ -43,7 +43,7 @@ fn read_labelled<A: Allocator + Copy>(
     Ok(Some(with_label(is_push, Text::from_str(alloc, label)?)))
 }
 
-// A version that is kept under a label, or brought back.
+// Returns the operation that keeps a version under a label, or brings it back.
 fn with_label<A: Allocator>(is_push: bool, label: Text<A>) -> ITermUnicodeVersionOp<A>
     ensures { result ≡ (if is_push then op.Push (Some label) else op.Pop (Some label)) }
 {
@@ -54,7 +54,7 @@ fn with_label<A: Allocator>(is_push: bool, label: Text<A>) -> ITermUnicodeVersio
     }
 }
 
-// A word alone, or a number.
+// Reads a word alone, or a number.
 fn read_unlabelled<A: Allocator>(word: &[u8]) -> Option<ITermUnicodeVersionOp<A>>
     ensures { result ≡ unlabelled_version word.now }
 {

@@ -1,4 +1,4 @@
-//! Tenths: numbers with one digit after the point.
+//! This module defines tenths: numbers with one digit after the point.
 ghost use Rattle.std.specs.Prelude.{◌≡◌, ◌<◌, IfSome, Some};
 ghost use Rattle.esc_values.specs.Scalars.{number_in};
 ghost use Rattle.esc_iterm.specs.Tenths.{tenth_of, tenths_in, tenths_of, tenths_text};
@@ -7,8 +7,9 @@ use esc_values::cut::cut;
 use esc_values::scalar::read_u32;
 use std::fmt;
 
-/// The tenths that these bytes write, where they fit: at least one ASCII digit, then optionally a
-/// point and at most one digit after it, and nothing else. `12`, `12.` and `12.0` are 120.
+/// Returns the tenths that these bytes write, if they fit: at least one ASCII digit, then
+/// optionally a point and at most one digit after it, and nothing else. `12`, `12.` and `12.0` are
+/// 120.
 pub fn read_tenths(text: &[u8]) -> Option<u32>
     ensures { result ≡ tenths_of text.now }
 {
@@ -18,7 +19,7 @@ pub fn read_tenths(text: &[u8]) -> Option<u32>
     }
 }
 
-// The tenths of the digits before the point and of what follows it.
+// Returns the tenths of the digits before the point and after it.
 fn read_slices(whole: &[u8], tenth: &[u8]) -> Option<u32>
     ensures { result ≡ tenths_in whole.now tenth.now }
 {
@@ -32,7 +33,7 @@ fn read_slices(whole: &[u8], tenth: &[u8]) -> Option<u32>
     u32::try_from(tenths).ok()
 }
 
-// The number of at least one digit, where it fits.
+// Returns the number of at least one digit, if it fits.
 fn read_digits(digits: &[u8]) -> Option<u32>
     ensures { result ≡ number_in 32 digits.now }
 {
@@ -42,7 +43,7 @@ fn read_digits(digits: &[u8]) -> Option<u32>
     read_u32(digits)
 }
 
-// One digit, or none.
+// Returns the number of one digit, or 0 for none.
 fn read_tenth(digits: &[u8]) -> Option<u32>
     ensures value { result ≡ tenth_of digits.now }
     ensures digit { IfSome result (λ d. d < 10) }
@@ -56,7 +57,7 @@ fn read_tenth(digits: &[u8]) -> Option<u32>
     Some(u32::from(*digit - b'0'))
 }
 
-/// Tenths, that print with one digit after the point.
+/// These are tenths, which print with one digit after the point.
 #[derive(Clone, Copy)]
 pub struct Tenths(pub u32);
 

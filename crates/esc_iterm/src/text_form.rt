@@ -1,4 +1,4 @@
-//! The commands that are a keyword and one text.
+//! This module defines the commands that are a keyword and one text.
 ghost use Rattle.std.specs.Prelude.{◌≡◌};
 ghost use Rattle.esc_iterm.specs.TextForms.{with_text};
 
@@ -6,7 +6,7 @@ use crate::proprietary::ITermProprietary;
 use esc_values::Text;
 use std::alloc::Allocator;
 
-// A command that is a keyword and one text.
+// This is a command that is a keyword and one text.
 #[derive(Clone, Copy)]
 pub(crate) enum TextForm {
     CurrentDir,
@@ -17,7 +17,7 @@ pub(crate) enum TextForm {
 }
 
 impl TextForm {
-    // The command with this text.
+    // Returns the command with this text.
     pub(crate) fn with_text<A: Allocator>(self, text: Text<A>) -> ITermProprietary<A>
         ensures { result ≡ with_text self text }
     {

@@ -1,4 +1,4 @@
-//! The version of Unicode whose widths are used
+//! This module defines the version of Unicode whose widths are used
 //! (<https://iterm2.com/documentation-escape-codes.html>, "Unicode Version").
 ghost use Rattle.std.specs.Prelude.{Some};
 ghost use Rattle.esc_iterm.specs.Versions.{version_text};
@@ -8,21 +8,21 @@ use esc_values::Text;
 use std::alloc::{Allocator, Global};
 use std::fmt;
 
-/// What is done to the version of Unicode by which characters have their widths (iTerm2's
+/// The operation changes the version of Unicode that gives characters their widths (iTerm2's
 /// documentation, "Unicode Version").
 #[derive(Drop)]
 #[derive_where(Debug, PartialEq, Eq)]
 pub enum ITermUnicodeVersionOp<A: Allocator = Global> {
     /// Sets the version.
     Set(u8),
-    /// Keeps the version on a stack, under a label where there is one.
+    /// Keeps the version on a stack, under a label if there is one.
     Push(Option<Text<A>>),
-    /// Sets the version that was kept last, or that under the label, and drops what was kept since.
+    /// Sets the version that was kept last, or that under the label, and drops those kept since.
     Pop(Option<Text<A>>),
 }
 
-/// Writes the number, or `push` or `pop`, with a space and the label where there is one. Where it
-/// returns `Ok`, all of it was written.
+/// Writes the number, or `push` or `pop`, with a space and the label if there is one. If it returns
+/// `Ok`, all of it was written.
 impl<A: Allocator> fmt::Display for ITermUnicodeVersionOp<A> {
     ghost output = { λ v. Some (version_text v) };
 

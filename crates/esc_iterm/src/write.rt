@@ -1,4 +1,4 @@
-//! The texts of iTerm2's proprietary commands.
+//! This module writes iTerm2's proprietary commands.
 ghost use Rattle.std.specs.Prelude.{Some, ◌∷◌, ◌++◌, codes};
 ghost use Rattle.std.specs.Fmt.{DisplaysOnOk};
 ghost use Rattle.esc_values.specs.Base64.{base64_text};
@@ -15,8 +15,8 @@ use std::alloc::Allocator;
 use std::fmt;
 use std::fmt::Display;
 
-/// Writes what comes between `ESC ]` and the terminator: `1337;` and the form of the command. Where
-/// it returns `Ok`, all of it was written.
+/// Writes the text between `ESC ]` and the string terminator: `1337;` and the form of the command.
+/// If it returns `Ok`, all of it was written.
 impl<A: Allocator> fmt::Display for ITermProprietary<A> {
     ghost output = { λ c. Some (iterm_text c) };
 
@@ -26,7 +26,7 @@ impl<A: Allocator> fmt::Display for ITermProprietary<A> {
     }
 }
 
-// What follows the code.
+// Writes the text after the code.
 fn write_form<W: fmt::Write, A: Allocator>(
     command: &ITermProprietary<A>,
     f: &mut fmt::Formatter<W>,
@@ -58,7 +58,7 @@ fn write_form<W: fmt::Write, A: Allocator>(
     }
 }
 
-// What comes before a text, and the text.
+// Writes `before`, and then the text.
 pub(crate) fn write_text<W: fmt::Write, A: Allocator>(
     before: &str,
     text: &Text<A>,
@@ -70,7 +70,7 @@ pub(crate) fn write_text<W: fmt::Write, A: Allocator>(
     f.write_str(text.as_str())
 }
 
-// What comes before a text, and the text in base64.
+// Writes `before`, and then the text in base64.
 fn write_encoded<W: fmt::Write, A: Allocator>(
     before: &str,
     text: &Text<A>,
@@ -83,7 +83,7 @@ fn write_encoded<W: fmt::Write, A: Allocator>(
     Encoded(text.as_bytes()).fmt(f)
 }
 
-// The size of a cell.
+// Writes the size of a cell.
 fn write_cell_size<W: fmt::Write>(
     height: u32,
     width: u32,
@@ -100,7 +100,7 @@ fn write_cell_size<W: fmt::Write>(
     write!(f, "ReportCellSize={height};{width}{scale}")
 }
 
-// A variable and its value in base64.
+// Writes a variable and its value in base64.
 fn write_variable<W: fmt::Write, A: Allocator>(
     name: &Text<A>,
     value: &Text<A>,
@@ -113,7 +113,7 @@ fn write_variable<W: fmt::Write, A: Allocator>(
     write_encoded("=", value, f)
 }
 
-// A version of Unicode.
+// Writes a version of Unicode.
 fn write_version<W: fmt::Write, A: Allocator>(
     version: &ITermUnicodeVersionOp<A>,
     f: &mut fmt::Formatter<W>,
@@ -125,7 +125,7 @@ fn write_version<W: fmt::Write, A: Allocator>(
     version.fmt(f)
 }
 
-// A scale, that prints after a `;`, where there is one.
+// This is a scale, which prints after a `;`, if there is one.
 #[derive(Clone, Copy)]
 struct Scale(Option<u32>);
 

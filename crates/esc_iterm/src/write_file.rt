@@ -1,4 +1,4 @@
-//! The texts of files.
+//! This module writes files.
 ghost use Rattle.std.specs.Prelude.{◌≡◌, ◌&&◌, not, is_some, if◌then◌else◌, [], ◌∷◌, map, Some};
 ghost use Rattle.std.specs.Fmt.{DisplaysOnOk};
 ghost use Rattle.std.specs.Option.{option_map, unwrap_or};
@@ -17,18 +17,18 @@ use std::alloc::Allocator;
 use std::fmt;
 use std::fmt::Display;
 
-// The value of a key, where it is written.
+// This is the value of a key, if it is written.
 #[derive(Clone, Copy)]
 pub(crate) enum Value<'a> {
     Size(Option<usize>),
-    // Written in base64.
+    // It is written in base64.
     Name(Option<&'a str>),
-    // Written unless it is automatic.
+    // It is written unless it is automatic.
     Dimension(ITermDimension),
     Word(Option<&'a str>),
 }
 
-// A key with its value.
+// This is a key with its value.
 #[derive(Clone, Copy)]
 pub(crate) struct Key<'a>(pub(crate) &'a str, pub(crate) Value<'a>);
 
@@ -61,7 +61,7 @@ impl Display for Value<'_> {
     }
 }
 
-// The keys with their values, `;` between them.
+// Writes the keys with their values, `;` between them.
 pub(crate) fn write_keys<W: fmt::Write, A: Allocator>(
     file: &ITermFileData<A>,
     f: &mut fmt::Formatter<W>,
@@ -87,7 +87,7 @@ pub(crate) fn write_keys<W: fmt::Write, A: Allocator>(
     write_each(&keys, f)
 }
 
-// The keys that are written, with `;` between them.
+// Writes the keys that have a value, with `;` between them.
 fn write_each<W: fmt::Write>(keys: &[Key<'_>], f: &mut fmt::Formatter<W>) -> fmt::Result
     ensures { DisplaysOnOk W.write_str_gives f.old result
         (Some (joined (key_slices (map entry keys.now)))) f.new }
@@ -100,7 +100,7 @@ fn write_each<W: fmt::Write>(keys: &[Key<'_>], f: &mut fmt::Formatter<W>) -> fmt
     Ok(())
 }
 
-// A key with its value, where it is written, and a `;` before it, unless it is the first.
+// Writes a key with its value, if it is written, and a `;` before it, unless it is the first.
 fn write_key<W: fmt::Write>(is_first: bool, key: &Key<'_>, f: &mut fmt::Formatter<W>) -> fmt::Result
     ensures { DisplaysOnOk W.write_str_gives f.old result
         (Some (pieces_after is_first (key_slices (entry key.now ∷ [])))) f.new }
@@ -113,28 +113,28 @@ fn write_key<W: fmt::Write>(is_first: bool, key: &Key<'_>, f: &mut fmt::Formatte
     write!(f, "{separator}{name}={value}")
 }
 
-// Whether the next key is the first that is written.
+// Returns whether the next key is the first that is written.
 fn is_still_first(is_first: bool, key: &Key<'_>) -> bool
     ensures { result ≡ (is_first && not (is_some (value_text key.now.1))) }
 {
     is_first && !key.1.is_written()
 }
 
-// What comes before a key.
+// Returns the text before a key.
 fn separator(is_first: bool) -> &'static str
     ensures { result.now ≡ (if is_first then [] else 0x3b ∷ []) }
 {
     if is_first { "" } else { ";" }
 }
 
-// The word, where it is wanted.
+// Returns the word, if it is wanted.
 fn word_if(is_wanted: bool, word: &'static str) -> Option<&'static str>
     ensures { option_map (λ w. w.now) result ≡ some_if is_wanted word.now }
 {
     if is_wanted { Some(word) } else { None }
 }
 
-// The text, where there is one.
+// Returns the text, if there is one.
 fn text_of<A: Allocator>(text: &Option<Text<A>>) -> Option<&str>
     ensures { option_map (λ t. t.now) result ≡ text.now }
 {
@@ -144,7 +144,7 @@ fn text_of<A: Allocator>(text: &Option<Text<A>>) -> Option<&str>
     }
 }
 
-// `:`, and the content in base64.
+// Writes `:`, and the content in base64.
 pub(crate) fn write_content<W: fmt::Write, A: Allocator>(
     content: &Items<u8, A>,
     f: &mut fmt::Formatter<W>,

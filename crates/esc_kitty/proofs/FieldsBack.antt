@@ -70,7 +70,7 @@ pub frame_number_is : (n : Option ℕ) → IsFrameNumber n
 frame_number_is None h = refl
 frame_number_is (Some n) h = rw (one_back n h.0, ne_eqb n 0 h.1) refl
 
--- what an image is made of
+-- the content of an image reads back
 pub content_is : {A : Type 0} (c : KittyImageData A) → IsWritableContent c
     → content_by {A = A} (unwrap_or (medium_word c) (codes "d"))
     (and_then (number_text (size_in c)) (number_of 32))

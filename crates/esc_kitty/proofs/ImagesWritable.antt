@@ -1,4 +1,4 @@
--- What kept bytes are read as is writable.
+-- An image that kept bytes are read as is writable.
 use Rattle.std.proofs.Common.{ℕ, ◌≡◌, ◌<◌, ◌^◌, ◌==◌, ◌+◌, Bool, true, false, List, [], ◌∷◌, codes, Option, Some, None, refl, subst}
 use Rattle.std.specs.List.{list_all}
 use Rattle.std.specs.Option.{option_map, unwrap_or}
@@ -37,7 +37,7 @@ read_number v k = number_fits (v k)
 read_signed : (v : Values) (k : List ℕ) → IsOrder (signed v k)
 read_signed v k = order_fits (v k)
 
--- what an image is made of
+-- says that the content of an image is writable
 abbrev GoodContent : (A : Type 0) → KittyImageData A → Type 0
 GoodContent A c = IsWritableContent c
 

@@ -185,7 +185,7 @@ written_pairs (e ∷ es) h =
     let k = and_parts (list_all is_name e.0) (is_value e.1) q.0 in
     with_pairs e.0 e.1 (written es) k.0 k.1 (written_pairs es q.1)
 
--- what is read of keys that are written
+-- written keys are read as this image
 pub entries_image : {A : Type 0} (es : List Entry) (payload : List ℕ)
     → image_in {A = A} (values_of (written es)) payload ≡ image_in (λ k. find k es) payload
 entries_image {A = A} es payload =

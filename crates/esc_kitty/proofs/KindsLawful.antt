@@ -1,4 +1,4 @@
--- Each kind of value that fits reads back and is written as a word, and what is read fits.
+-- Each kind of value that fits reads back and is written as a word, and a value that is read fits.
 use Rattle.std.proofs.Common.{ℕ, ◌≡◌, ◌<◌, ◌^◌, ◌==◌, true, inl, inr, List, Option, Some, None, ap}
 use Rattle.std.proofs.lemmas.Bool.{eqb-false, cases_Bool}
 use Rattle.esc_values.specs.Scalars.{IsSigned, and_then, number_of, signed_of}

@@ -1,4 +1,4 @@
--- What the value of `a` asks for, and the image of each.
+-- The value of `a` names an action, which has an image.
 use Rattle.std.specs.Prelude.{ℕ, if◌then◌else◌, List, codes, Option, Some, None}
 use Rattle.std.specs.Option.{option_map}
 use Rattle.esc_kitty.specs.Images.{delete_of, image_display, image_frame, image_shown, transmit_of}
@@ -11,7 +11,7 @@ use Rattle.esc_kitty.specs.declared.image.KittyImage.TheVariants as image
 use Rattle.esc_kitty.specs.declared.parse.Action.{Action}
 use Rattle.esc_kitty.specs.declared.parse.Action.TheVariants as action
 
--- what a value of `a` asks for
+-- the action that a value of `a` asks for
 abbrev pub action_of : List ℕ → Option Action
 action_of w = if is w (codes "t") then Some action.Keep
     else if is w (codes "q") then Some action.Ask
@@ -22,7 +22,7 @@ action_of w = if is w (codes "t") then Some action.Keep
     else if is w (codes "c") then Some action.Compose
     else None
 
--- the image of keys and a payload, by what is asked for
+-- the image of keys and a payload, by the action
 abbrev pub image_as : {A : Type 0} → Action → KittyImageVerbosity → Values → List ℕ
     → Option (KittyImage A)
 image_as action.Keep q v payload = option_map (λ t. image.TransmitData t q) (transmit_of v payload)

@@ -1,4 +1,4 @@
--- The keys of an image's structs, one line a key, and what is made of their values.
+-- The fields of an image's structs are keys, one line a key, with the meaning of their values.
 use Rattle.std.specs.Prelude.{List, [], ◌∷◌, codes, Option}
 use Rattle.esc_values.specs.Fields.{Values, Field, Makes, read_with}
 use Rattle.esc_kitty.specs.Kinds.{kinds, Number, FrameNumber, Order, Flag, Format, Compression, Composition}
@@ -8,7 +8,7 @@ use Rattle.esc_kitty.specs.declared.placement.KittyImagePlacement.{KittyImagePla
 use Rattle.esc_kitty.specs.declared.frame.KittyImageFrame.{KittyImageFrame}
 use Rattle.esc_kitty.specs.declared.compose.KittyImageFrameCompose.{KittyImageFrameCompose}
 
--- an image on its way to the terminal, but for what it is made of
+-- the fields of an image that is sent to the terminal, but for its content
 abbrev pub transmit_fields : {A : Type 0} → List (Field kinds (KittyImageTransmit A))
 transmit_fields =
     record { key = codes "f"; kind = Format; get = λ t. t.format }

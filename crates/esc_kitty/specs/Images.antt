@@ -1,4 +1,4 @@
--- What the data of an application program command means as an image.
+-- The data of an application program command means an image.
 use Rattle.std.specs.Prelude.{ℕ, ◌+◌, ◌==◌, nat_le, ◌&&◌, Bool, true, false, if◌then◌else◌, List, [], ◌∷◌, codes, Option, Some, None}
 use Rattle.std.specs.Option.{option_map, unwrap_or}
 use Rattle.esc_values.specs.Base64.{base64_text_of}
@@ -19,7 +19,7 @@ use Rattle.esc_kitty.specs.declared.delete.KittyImageDelete.TheVariants.{DeleteA
 use Rattle.esc_kitty.specs.declared.image.KittyImage.{KittyImage}
 use Rattle.esc_kitty.specs.declared.image.KittyImage.TheVariants as image
 
--- what an image is made of, by the value of `t`; the size is that of `S`, the offset that of `O`
+-- the content of an image, by the value of `t`; the size is that of `S`, the offset that of `O`
 abbrev pub content_by : {A : Type 0} → List ℕ → Option ℕ → Option ℕ → List ℕ
     → Option (KittyImageData A)
 content_by w size offset payload =
@@ -39,7 +39,7 @@ abbrev pub transmit_of : {A : Type 0} → Values → List ℕ → Option (KittyI
 transmit_of {A = A} v payload =
     and_then (transmit_with {A = A} v) (λ make. option_map make (content_of v payload))
 
--- what a small letter deletes, one line a letter; d is whether the data too
+-- the deletion of a small letter, one line a letter; d says whether the data is deleted too
 abbrev pub delete_by : ℕ → Bool → Values → Option KittyImageDelete
 delete_by c d v =
     -- a
@@ -131,7 +131,7 @@ image_of [] = None
 image_of (b ∷ bs) =
     if b == 0x47 then image_with (keys_and_payload bs).0 (keys_and_payload bs).1 else None
 
--- what is reported of a command
+-- the verbosity of a command
 abbrev pub verbosity_in : {A : Type 0} → KittyImage A → KittyImageVerbosity
 verbosity_in (image.TransmitData t q) = q
 verbosity_in (image.TransmitDataAndDisplay t p q) = q

@@ -6,8 +6,8 @@ use Rattle.esc_values.specs.Fields.{Values, values_of}
 use Rattle.esc_values.specs.Scalars.{and_then, number_of, signed_of}
 use Rattle.esc_kitty.specs.declared.keys.Pair.{Pair}
 
--- the keys of a text and their values: between `,`, in UTF-8, and each with a `=`, the first of
--- which ends the key
+-- the keys of a text and their values: between `,`, in UTF-8, and each with a `=`, whose first
+-- one ends the key
 abbrev pub keys_of : List ℕ → Option Pairs
 keys_of t = pairs_in (slice_split (λ c. c == 0x2c) t)
 

@@ -27,7 +27,8 @@ number_text n = option_map decimal n
 abbrev pub signed_text : Option ℤ → Option (List ℕ)
 signed_text z = option_map signed_decimal z
 
--- a number, one of which 0 counts as absent, a signed number, a flag, and three kinds of words
+-- a number, one whose 0 counts as absent, a signed number, a flag, or one of three kinds of
+-- words
 pub data Kind : Type 0 where
   Number FrameNumber Order Flag Format Compression Composition : Kind
 

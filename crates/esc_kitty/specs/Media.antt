@@ -1,11 +1,11 @@
--- What a payload may name.
+-- A payload may name a file or a shared memory object.
 use Rattle.std.specs.Prelude.{ℕ, List, Option}
 use Rattle.esc_kitty.specs.declared.content.KittyImageData.{KittyImageData}
 use Rattle.esc_kitty.specs.declared.content.KittyImageData.TheVariants.{File, TemporaryFile, SharedMem}
 use Rattle.esc_kitty.specs.declared.read_transmit.Medium.{Medium}
 use Rattle.esc_kitty.specs.declared.read_transmit.Medium.TheVariants as medium
 
--- what is named so, with its size and its offset
+-- the content with this name, its size and its offset
 abbrev pub named : {A : Type 0} → Medium → List ℕ → Option ℕ → Option ℕ → KittyImageData A
 named medium.File t size offset = File t size offset
 named medium.TemporaryFile t size offset = TemporaryFile t size offset

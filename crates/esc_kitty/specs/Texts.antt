@@ -41,7 +41,7 @@ abbrev pub keys_text : Pairs → List ℕ
 keys_text [] = []
 keys_text (e ∷ es) = pair_text e ++ flat_map (λ d. 0x2c ∷ pair_text d) es
 
--- what one more key adds to the text: `,` before it, unless it is the first
+-- the text before a key: `,`, unless it is the first
 abbrev pub separator : Bool → List ℕ
 separator first = if first then [] else 0x2c ∷ []
 
@@ -52,7 +52,7 @@ entry_by first n (Some v) = separator first ++ pair_text (n, v)
 abbrev pub entry_text : Bool → Entry → List ℕ
 entry_text first e = entry_by first e.0 e.1
 
--- `t`, `S`, `O` and the payload of what an image is made of
+-- is `t` of the content of an image; then `S`, `O` and the payload
 abbrev pub medium_word : {A : Type 0} → KittyImageData A → Option (List ℕ)
 medium_word (Direct t) = None
 medium_word (DirectBin b) = None
@@ -81,7 +81,7 @@ content_text (File t s o) = base64_text t
 content_text (TemporaryFile t s o) = base64_text t
 content_text (SharedMem t s o) = base64_text t
 
--- the keys of what is transmitted
+-- the keys of the content
 abbrev pub content_keys : {A : Type 0} → KittyImageData A → List Entry
 content_keys c =
     (codes "t", medium_word c)
@@ -92,12 +92,12 @@ content_keys c =
 abbrev pub sent_keys : {A : Type 0} → KittyImageTransmit A → List Entry
 sent_keys t = entries transmit_fields t ++ content_keys t.content
 
--- The keys of each action, in the order of their bytes, each with its value where that differs from
--- what it is without the key.
+-- These are the keys of each action, in the order of their bytes, each with its value if that
+-- differs from the one that is read without the key.
 abbrev pub transmit_keys : {A : Type 0} → KittyImageTransmit A → KittyImageVerbosity → List Entry
 transmit_keys t q = in_order ((codes "q", verbosity_word q) ∷ sent_keys t)
 
--- of an action that `a` names, and with what is reported
+-- the keys of an action that `a` names; then the same with the verbosity
 abbrev pub asked_keys : List ℕ → List Entry → List Entry
 asked_keys a es = in_order ((codes "a", Some a) ∷ es)
 
@@ -196,6 +196,6 @@ payload_text (image.ComposeFrame f q) = []
 abbrev pub image_body : {A : Type 0} → KittyImage A → List ℕ
 image_body i = 0x47 ∷ (keys_text (image_keys i) ++ payload_text i)
 
--- `ESC _` and the data; what ends the command is not part of it
+-- is `ESC _` and the data, without the string terminator
 abbrev pub image_text : {A : Type 0} → KittyImage A → List ℕ
 image_text i = 0x1b ∷ 0x5f ∷ image_body i

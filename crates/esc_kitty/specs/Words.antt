@@ -1,4 +1,4 @@
--- The words of an image's keys: what each names, and which is written.
+-- The values of an image's keys are words: each names something, and one of them is written.
 use Rattle.std.specs.Prelude.{ℕ, ℤ, pos, negsuc, nat_eq, ◌==◌, Bool, true, false, if◌then◌else◌, List, codes, Option, Some, None}
 use Rattle.std.specs.Cmp.Lexicographic.{pointwise}
 use Rattle.esc_kitty.specs.declared.verbosity.KittyImageVerbosity.{KittyImageVerbosity}
@@ -13,7 +13,7 @@ use Rattle.esc_kitty.specs.declared.composition.KittyFrameCompositionMode.TheVar
 abbrev pub is : List ℕ → List ℕ → Bool
 is w x = pointwise nat_eq w x
 
--- what is reported: absent is all
+-- the verbosity of a word: all if it is absent
 abbrev pub verbosity_of : Option (List ℕ) → Option KittyImageVerbosity
 verbosity_of None = Some Verbose
 verbosity_of (Some w) = if is w (codes "0") then Some Verbose

@@ -1,10 +1,10 @@
-//! How a frame's pixels are put over others.
+//! This module says how a frame's pixels are put over others.
 ghost use Rattle.std.specs.Prelude.{◌≡◌};
 ghost use Rattle.std.specs.Option.{option_map};
 ghost use Rattle.esc_kitty.specs.Words.{composition_of, composition_word};
 
-/// How a frame's pixels are put over others (key `X` of a frame, key `C` where frames are
-/// composed).
+/// The mode says how a frame's pixels are put over others (key `X` of a frame, key `C` of composed
+/// frames).
 #[derive(Clone, Copy, Debug, PartialEq, Eq)]
 pub enum KittyFrameCompositionMode {
     /// `0`: the colours are blended by their alpha. This is the default.
@@ -14,7 +14,7 @@ pub enum KittyFrameCompositionMode {
 }
 
 impl KittyFrameCompositionMode {
-    // What a number names, if it names one.
+    // Returns the mode that a number names, if it names one.
     pub(crate) fn read(number: Option<i32>) -> Option<KittyFrameCompositionMode>
         ensures { result ≡ composition_of number }
     {
@@ -25,7 +25,7 @@ impl KittyFrameCompositionMode {
         }
     }
 
-    // The value of the key, unless this is the default.
+    // Returns the value of the key, unless this is the default.
     pub(crate) fn word(self) -> Option<&'static str>
         ensures { option_map (λ w. w.now) result ≡ composition_word self }
     {

@@ -1,19 +1,19 @@
-//! How an image's pixels are compressed.
+//! This module says how an image's pixels are compressed.
 ghost use Rattle.std.specs.Prelude.{◌≡◌};
 ghost use Rattle.std.specs.Option.{option_map};
 ghost use Rattle.esc_kitty.specs.Words.{compression_of, compression_word};
 
-/// How an image's pixels are compressed (key `o`).
+/// The compression says how an image's pixels are compressed (key `o`).
 #[derive(Clone, Copy, Debug, PartialEq, Eq)]
 pub enum KittyImageCompression {
-    /// Not at all. This is the default.
+    /// They are not compressed. This is the default.
     None,
-    /// `z`: by deflate, in the zlib format (RFC 1950).
+    /// `z`: they are compressed by deflate, in the zlib format (RFC 1950).
     Deflate,
 }
 
 impl KittyImageCompression {
-    // What a value of `o` names, if it names one.
+    // Returns the compression that a value of `o` names, if it names one.
     pub(crate) fn read(value: Option<&str>) -> Option<KittyImageCompression>
         ensures { result ≡ compression_of (option_map (λ w. w.now) value.entry) }
     {
@@ -26,7 +26,7 @@ impl KittyImageCompression {
         }
     }
 
-    // The value of `o`, unless this is the default.
+    // Returns the value of `o`, unless this is the default.
     pub(crate) fn word(self) -> Option<&'static str>
         ensures { option_map (λ w. w.now) result ≡ compression_word self }
     {

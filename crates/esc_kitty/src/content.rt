@@ -1,4 +1,4 @@
-//! What an image is made of, or where that lies.
+//! This module defines the content of an image, or its place.
 ghost use Rattle.std.specs.Prelude.{◌≡◌, Some};
 ghost use Rattle.std.specs.Option.{option_map};
 ghost use Rattle.esc_kitty.specs.Texts.{content_text, medium_word, offset_in, size_in};
@@ -9,46 +9,46 @@ use std::alloc::{Allocator, Global};
 use std::fmt;
 use std::fmt::Display;
 
-/// What an image is made of, or where that lies (key `t`).
+/// The content is the data of an image, or names its place (key `t`).
 #[derive(Drop)]
 #[derive_where(PartialEq, Eq)]
 pub enum KittyImageData<A: Allocator = Global> {
     /// `d`: the payload as it is in the command, which is base64. It is not decoded.
     Direct(Text<A>),
-    /// Bytes that are written as base64. They are never read: what was written so reads as
-    /// `Direct`.
+    /// Bytes that are written as base64. No command is read as `DirectBin`: the text of such bytes
+    /// reads as `Direct`.
     DirectBin(Items<u8, A>),
     /// `f`: a file.
     File {
         /// Its path.
         path: Text<A>,
-        /// How many bytes of it are the image, key `S`; where there is none, all.
+        /// Says how many bytes of it are the image, key `S`; without it, all are.
         data_size: Option<u32>,
-        /// How many bytes of it come before them, key `O`.
+        /// Says how many bytes of it come before them, key `O`.
         data_offset: Option<u32>,
     },
     /// `t`: a file that the terminal deletes once it is read.
     TemporaryFile {
         /// Its path.
         path: Text<A>,
-        /// How many bytes of it are the image, key `S`; where there is none, all.
+        /// Says how many bytes of it are the image, key `S`; without it, all are.
         data_size: Option<u32>,
-        /// How many bytes of it come before them, key `O`.
+        /// Says how many bytes of it come before them, key `O`.
         data_offset: Option<u32>,
     },
     /// `s`: a shared memory object (POSIX `shm_open`).
     SharedMem {
         /// Its name.
         name: Text<A>,
-        /// How many bytes of it are the image, key `S`; where there is none, all.
+        /// Says how many bytes of it are the image, key `S`; without it, all are.
         data_size: Option<u32>,
-        /// How many bytes of it come before them, key `O`.
+        /// Says how many bytes of it come before them, key `O`.
         data_offset: Option<u32>,
     },
 }
 
 impl<A: Allocator> KittyImageData<A> {
-    // The value of `t`, unless this is the default.
+    // Returns the value of `t`, unless this is the default.
     pub(crate) fn medium(&self) -> Option<&'static str>
         ensures { option_map (λ w. w.now) result ≡ medium_word self.now }
     {
@@ -60,7 +60,7 @@ impl<A: Allocator> KittyImageData<A> {
         }
     }
 
-    // The number of bytes, where it is emitted.
+    // Returns the number of bytes, if it is emitted.
     pub(crate) fn size(&self) -> Option<u32>
         ensures { result ≡ size_in self.now }
     {
@@ -72,7 +72,7 @@ impl<A: Allocator> KittyImageData<A> {
         }
     }
 
-    // The number of bytes before them, where it is emitted.
+    // Returns the number of bytes before them, if it is emitted.
     pub(crate) fn offset(&self) -> Option<u32>
         ensures { result ≡ offset_in self.now }
     {
@@ -86,7 +86,7 @@ impl<A: Allocator> KittyImageData<A> {
 }
 
 /// Writes the payload: the text of `Direct`, else base64 of the bytes, the path or the name. Takes
-/// no memory, and errs only where the writer below the formatter errs.
+/// no memory, and returns an error only if the writer below the formatter does.
 impl<A: Allocator> fmt::Display for KittyImageData<A> {
     ghost output = { λ c. Some (content_text c) };
 
@@ -101,7 +101,7 @@ impl<A: Allocator> fmt::Display for KittyImageData<A> {
     }
 }
 
-/// Of bytes in the command it writes only how many they are, since they may be many.
+/// Writes only the number of the bytes in the command, since they may be many.
 impl<A: Allocator> fmt::Debug for KittyImageData<A> {
     fn fmt<W: fmt::Write>(&self, f: &mut fmt::Formatter<W>) -> fmt::Result {
         match self {
@@ -126,7 +126,7 @@ impl<A: Allocator> fmt::Debug for KittyImageData<A> {
     }
 }
 
-// How many bytes the command itself has.
+// Writes how many bytes the command itself has.
 fn show_length<W: fmt::Write>(
     variant: &str,
     length: usize,
@@ -135,7 +135,7 @@ fn show_length<W: fmt::Write>(
     write!(f, "{variant}({length} bytes of data)")
 }
 
-// What a command names, by the name of the field that has its path or its name.
+// Writes the path or the name in a command, after the name of its field.
 fn show_named<A: Allocator, W: fmt::Write>(
     variant: &str,
     field: &str,

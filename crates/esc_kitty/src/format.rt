@@ -1,9 +1,9 @@
-//! The format of an image's pixels.
+//! This module defines the format of an image's pixels.
 ghost use Rattle.std.specs.Prelude.{◌≡◌};
 ghost use Rattle.std.specs.Option.{option_map};
 ghost use Rattle.esc_kitty.specs.Words.{format_of, format_word};
 
-/// The format of an image's pixels (key `f`).
+/// The format of an image's pixels is one of these (key `f`).
 #[derive(Clone, Copy, Debug, PartialEq, Eq)]
 pub enum KittyImageFormat {
     /// `24`: three bytes a pixel: red, green and blue.
@@ -15,7 +15,7 @@ pub enum KittyImageFormat {
 }
 
 impl KittyImageFormat {
-    // What a value of `f` names, if it names one. Where the key is absent there is no format.
+    // Returns the format that a value of `f` names, if it names one; no format without the key.
     pub(crate) fn read(value: Option<&str>) -> Option<Option<KittyImageFormat>>
         ensures { result ≡ format_of (option_map (λ w. w.now) value.entry) }
     {
@@ -30,7 +30,7 @@ impl KittyImageFormat {
         }
     }
 
-    // The value of `f`, where there is a format.
+    // Returns the value of `f`, if there is a format.
     pub(crate) fn word(format: Option<KittyImageFormat>) -> Option<&'static str>
         ensures { option_map (λ w. w.now) result ≡ format_word format }
     {

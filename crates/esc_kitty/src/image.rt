@@ -1,4 +1,4 @@
-//! Commands of kitty's graphics protocol.
+//! This module defines the commands of kitty's graphics protocol.
 ghost use Rattle.std.specs.Prelude.{◌≡◌};
 ghost use Rattle.esc_kitty.specs.Images.{verbosity_in};
 
@@ -10,7 +10,7 @@ use crate::transmit::KittyImageTransmit;
 use crate::verbosity::KittyImageVerbosity;
 use std::alloc::{Allocator, Global};
 
-/// A command of kitty's graphics protocol (key `a`).
+/// This is a command of kitty's graphics protocol (key `a`).
 #[derive(Drop)]
 #[derive_where(Debug, PartialEq, Eq)]
 pub enum KittyImage<A: Allocator = Global> {
@@ -18,16 +18,16 @@ pub enum KittyImage<A: Allocator = Global> {
     TransmitData {
         /// The image.
         transmit: KittyImageTransmit<A>,
-        /// What is reported.
+        /// The report of the terminal.
         verbosity: KittyImageVerbosity,
     },
     /// `T`: keeps an image, and shows it.
     TransmitDataAndDisplay {
         /// The image.
         transmit: KittyImageTransmit<A>,
-        /// How it is shown.
+        /// The placement that shows it.
         placement: KittyImagePlacement,
-        /// What is reported.
+        /// The report of the terminal.
         verbosity: KittyImageVerbosity,
     },
     /// `p`: shows an image that is kept.
@@ -36,19 +36,19 @@ pub enum KittyImage<A: Allocator = Global> {
         image_id: Option<u32>,
         /// The image's number, key `I`.
         image_number: Option<u32>,
-        /// How it is shown.
+        /// The placement that shows it.
         placement: KittyImagePlacement,
-        /// What is reported.
+        /// The report of the terminal.
         verbosity: KittyImageVerbosity,
     },
     /// `d`: deletes placements.
     Delete {
-        /// Which.
+        /// The placements that are deleted.
         what: KittyImageDelete,
-        /// What is reported.
+        /// The report of the terminal.
         verbosity: KittyImageVerbosity,
     },
-    /// `q`: asks whether an image could be kept, and keeps it not.
+    /// `q`: asks whether an image could be kept, and does not keep it.
     Query {
         /// The image.
         transmit: KittyImageTransmit<A>,
@@ -59,21 +59,21 @@ pub enum KittyImage<A: Allocator = Global> {
         transmit: KittyImageTransmit<A>,
         /// The frame.
         frame: KittyImageFrame,
-        /// What is reported.
+        /// The report of the terminal.
         verbosity: KittyImageVerbosity,
     },
     /// `c`: puts a part of one frame over another.
     ComposeFrame {
         /// The frames.
         frame: KittyImageFrameCompose,
-        /// What is reported.
+        /// The report of the terminal.
         verbosity: KittyImageVerbosity,
     },
 }
 
 impl<A: Allocator> KittyImage<A> {
-    /// What the terminal reports of the command. That of a `Query` is `Verbose`: an answer is what
-    /// it asks for.
+    /// Returns what the terminal reports of the command. For a `Query` it is `Verbose`, since a
+    /// query asks for an answer.
     pub fn verbosity(&self) -> KittyImageVerbosity
         ensures { result ≡ verbosity_in self.now }
     {

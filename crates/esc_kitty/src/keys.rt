@@ -1,4 +1,4 @@
-//! The keys of an image with their values.
+//! This module defines the keys of an image with their values.
 ghost use Rattle.std.specs.Prelude.{◌≡◌, ◌==◌, nat_eq, [], ◌∷◌, IfOk, OnErr, map};
 ghost use Rattle.std.specs.Cmp.Lexicographic.{pointwise};
 ghost use Rattle.std.specs.List.{slice_split};
@@ -12,7 +12,7 @@ use esc_values::cut::key_and_value;
 use esc_values::scalar::{read_i32, read_u32};
 use std::alloc::{AllocError, Allocator};
 
-// A key with its value.
+// A pair is a key with its value.
 #[derive(Clone, Copy)]
 pub(crate) struct Pair<'a> {
     pub(crate) key: &'a str,
@@ -20,7 +20,7 @@ pub(crate) struct Pair<'a> {
 }
 
 impl Pair<'_> {
-    // Whether the key is this letter.
+    // Returns whether the key is this letter.
     fn is_at(&self, letter: u8) -> bool
         ensures { result ≡ pointwise nat_eq self.now.key.now (letter ∷ []) }
     {
@@ -28,7 +28,7 @@ impl Pair<'_> {
     }
 }
 
-// The keys of a text with their values, between `,`; none where one is no key and value.
+// Reads the keys of a text with their values, between `,`; none if one is no key and value.
 pub(crate) fn read_keys<A: Allocator + Copy>(
     alloc: A,
     text: &[u8],
@@ -40,7 +40,7 @@ pub(crate) fn read_keys<A: Allocator + Copy>(
     read_slices(alloc, slices.as_slice())
 }
 
-// The slices of a text between `,`.
+// Returns the slices of a text between `,`.
 fn split_at_commas<A: Allocator>(alloc: A, text: &[u8]) -> Result<Vec<&[u8], A>, AllocError>
     ensures ok { IfOk result (λ v.
         map (λ p. p.now) v.items ≡ slice_split (λ c. c == 0x2c) text.now) }
@@ -49,7 +49,7 @@ fn split_at_commas<A: Allocator>(alloc: A, text: &[u8]) -> Result<Vec<&[u8], A>,
     fallible_alloc::collect(alloc, text.split(|c| *c == b','))
 }
 
-// The slices as keys and values; none where one is none.
+// Reads the slices as keys and values; none if one is none.
 fn read_slices<'a, A: Allocator>(
     alloc: A,
     slices: &[&'a [u8]],
@@ -68,7 +68,7 @@ fn read_slices<'a, A: Allocator>(
     Ok(Some(pairs))
 }
 
-// The last value of a key, where the key is there.
+// Returns the last value of a key, if the key is there.
 pub(crate) fn value<'a>(pairs: &[Pair<'a>], key: u8) -> Option<&'a str>
     ensures { option_map (λ v. v.now) result ≡ values pairs.now (key ∷ []) }
 {
@@ -81,7 +81,7 @@ pub(crate) fn value<'a>(pairs: &[Pair<'a>], key: u8) -> Option<&'a str>
     found
 }
 
-// The number of a key, where there is one that can be read.
+// Returns the number of a key, if there is one that can be read.
 pub(crate) fn number(pairs: &[Pair<'_>], key: u8) -> Option<u32>
     ensures { result ≡ number (values pairs.now) (key ∷ []) }
 {
@@ -91,7 +91,7 @@ pub(crate) fn number(pairs: &[Pair<'_>], key: u8) -> Option<u32>
     }
 }
 
-// The signed number of a key, where there is one that can be read.
+// Returns the signed number of a key, if there is one that can be read.
 pub(crate) fn signed(pairs: &[Pair<'_>], key: u8) -> Option<i32>
     ensures { result ≡ signed (values pairs.now) (key ∷ []) }
 {
@@ -101,7 +101,7 @@ pub(crate) fn signed(pairs: &[Pair<'_>], key: u8) -> Option<i32>
     }
 }
 
-// The number of a key, where there is one that can be read, and it is not 0.
+// Returns the number of a key, if there is one that can be read, and it is not 0.
 pub(crate) fn nonzero(pairs: &[Pair<'_>], key: u8) -> Option<u32>
     ensures { result ≡ not_zero (number (values pairs.now) (key ∷ [])) }
 {
@@ -111,7 +111,7 @@ pub(crate) fn nonzero(pairs: &[Pair<'_>], key: u8) -> Option<u32>
     }
 }
 
-// The flag of a key, where it is one. An absent key is false.
+// Returns the flag of a key, if it is one. An absent key is false.
 pub(crate) fn flag(pairs: &[Pair<'_>], key: u8) -> Option<bool>
     ensures { result ≡ flag_of (values pairs.now (key ∷ [])) }
 {

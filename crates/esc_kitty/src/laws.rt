@@ -1,5 +1,5 @@
-//! Laws of images: what is written reads back, what is read can be written, and keys are written in
-//! order.
+//! Laws of images say that a written image reads back, that a read image can be written, and that
+//! keys are written in order.
 ghost use Rattle.std.specs.Prelude.{◌≡◌, ℕ, true, List, Some};
 ghost use Rattle.std.specs.List.{list_all};
 ghost use Rattle.esc_values.specs.Fields.{ascends};
@@ -17,7 +17,7 @@ pub fn reads_back<A: Allocator>()
     ensures { (i : KittyImage A) → IsWritableImage i → ReadsBack i }
 {}
 
-/// What bytes from space to U+007F are read as is writable.
+/// An image that bytes from space to U+007F are read as is writable.
 #[tactic(auto, using(crate::proofs::ImagesWritable::kept_is_writable))]
 pub fn kept_is_writable<A: Allocator>()
     ensures { (bs : List ℕ) → list_all is_kept bs ≡ true → (i : KittyImage A) → image_of bs ≡ Some i

@@ -1,6 +1,6 @@
-//! Images of kitty's graphics protocol (<https://sw.kovidgoyal.net/kitty/graphics-protocol/>), as a
-//! part of `esc_image`: their values, how the data of an application program command is read as a
-//! [`KittyImage`], and how a value is written.
+//! This crate has the images of kitty's graphics protocol
+//! (<https://sw.kovidgoyal.net/kitty/graphics-protocol/>), as a part of `esc_image`: it reads the
+//! data of an application program command as a [`KittyImage`], and writes one.
 //!
 //! A program sends a picture of 10 by 20 pixels, three bytes a pixel, in base64:
 //!

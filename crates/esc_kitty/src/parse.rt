@@ -1,4 +1,4 @@
-//! How images are read.
+//! This module reads images.
 ghost use Rattle.std.specs.Prelude.{◌≡◌, IfOk, OnErr};
 ghost use Rattle.std.specs.Option.{option_map};
 ghost use Rattle.fallible_alloc.specs.Refusals.{Refused};
@@ -18,16 +18,16 @@ use esc_values::cut::cut;
 use std::alloc::{AllocError, Allocator};
 
 impl<A: Allocator + Copy> KittyImage<A> {
-    /// The image that the data of an application program command is; none where it is no image. The
-    /// error is that memory was refused.
+    /// Returns the image that the data of an application program command is; none if it is no
+    /// image. The error is that memory was refused.
     ///
     /// The data is `G`, the keys, and the payload after the first `;`; without `;` the payload is
     /// empty. The keys are UTF-8, with `,` between them; each has its value after its first `=`,
     /// and a later value of a key replaces an earlier one. Keys that the action does not use are
-    /// ignored, but for `q`. A number that cannot be read counts as absent; any other value that is
+    /// ignored, except `q`. A number that cannot be read counts as absent; any other value that is
     /// unknown is no image, nor is a deletion without a number that it needs. A payload is read
-    /// only where something is transmitted, and is then text, or base64 of a text where a file or a
-    /// shared memory object is named.
+    /// only if something is transmitted, and is then text, or base64 of a text if it names a file
+    /// or a shared memory object.
     pub fn parse_apc(alloc: A, bytes: &[u8]) -> Result<Option<KittyImage<A>>, AllocError>
         ensures ok { IfOk result (λ o. o ≡ image_of bytes.now) }
         ensures refused { OnErr result (Refused A) }
@@ -45,7 +45,7 @@ impl<A: Allocator + Copy> KittyImage<A> {
     }
 }
 
-// The image of the text of keys and a payload.
+// Reads the image of the text of keys and a payload.
 fn read_image<A: Allocator + Copy>(
     alloc: A,
     keys: &[u8],
@@ -60,7 +60,7 @@ fn read_image<A: Allocator + Copy>(
     read_image_in(alloc, pairs.as_slice(), payload)
 }
 
-// The image of keys and a payload.
+// Reads the image of keys and a payload.
 fn read_image_in<A: Allocator + Copy>(
     alloc: A,
     pairs: &[Pair<'_>],
@@ -76,7 +76,7 @@ fn read_image_in<A: Allocator + Copy>(
     read_image_by(alloc, action, verbosity, pairs, payload)
 }
 
-// What is asked for.
+// An action is what a command asks for.
 #[derive(Clone, Copy)]
 enum Action {
     Keep,
@@ -88,7 +88,7 @@ enum Action {
     Compose,
 }
 
-// What a value of `a` asks for.
+// Returns the action that a value of `a` asks for.
 fn read_action(word: &str) -> Option<Action>
     ensures { result ≡ action_of word.now }
 {
@@ -104,7 +104,7 @@ fn read_action(word: &str) -> Option<Action>
     }
 }
 
-// The image of keys and a payload, by the value of `a`.
+// Reads the image of keys and a payload, by the value of `a`.
 fn read_image_by<A: Allocator + Copy>(
     alloc: A,
     action: &str,
@@ -122,7 +122,7 @@ fn read_image_by<A: Allocator + Copy>(
     read_image_as(alloc, action, verbosity, pairs, payload)
 }
 
-// The image of keys and a payload, by what is asked for.
+// Reads the image of keys and a payload, by the action.
 fn read_image_as<A: Allocator + Copy>(
     alloc: A,
     action: Action,
@@ -144,7 +144,7 @@ fn read_image_as<A: Allocator + Copy>(
     }
 }
 
-// The image that is kept.
+// Reads the image that is kept.
 fn read_image_kept<A: Allocator>(
     alloc: A,
     verbosity: KittyImageVerbosity,
@@ -164,7 +164,7 @@ fn read_image_kept<A: Allocator>(
     }
 }
 
-// The image that is asked about.
+// Reads the image of a query.
 fn read_image_query<A: Allocator>(
     alloc: A,
     pairs: &[Pair<'_>],
@@ -180,7 +180,7 @@ fn read_image_query<A: Allocator>(
     }
 }
 
-// The kept image that is shown.
+// Reads the kept image that is shown.
 fn read_image_display<A: Allocator>(
     verbosity: KittyImageVerbosity,
     pairs: &[Pair<'_>],
@@ -198,7 +198,7 @@ fn read_image_display<A: Allocator>(
     })
 }
 
-// What is deleted.
+// Reads the deletion.
 fn read_image_delete<A: Allocator>(
     verbosity: KittyImageVerbosity,
     pairs: &[Pair<'_>],
@@ -211,7 +211,7 @@ fn read_image_delete<A: Allocator>(
     }
 }
 
-// The frames that are composed.
+// Reads the frames that are composed.
 fn read_image_compose<A: Allocator>(
     verbosity: KittyImageVerbosity,
     pairs: &[Pair<'_>],
@@ -225,7 +225,7 @@ fn read_image_compose<A: Allocator>(
     }
 }
 
-// The image that is kept and shown.
+// Reads the image that is kept and shown.
 fn read_image_shown<A: Allocator + Copy>(
     alloc: A,
     verbosity: KittyImageVerbosity,
@@ -248,7 +248,7 @@ fn read_image_shown<A: Allocator + Copy>(
     }
 }
 
-// The frame that is kept.
+// Reads the frame that is kept.
 fn read_image_frame<A: Allocator + Copy>(
     alloc: A,
     verbosity: KittyImageVerbosity,

@@ -1,4 +1,4 @@
-//! How deletions are read.
+//! This module reads deletions.
 ghost use Rattle.std.specs.Prelude.{◌≡◌};
 ghost use Rattle.esc_kitty.specs.Keys.{values};
 ghost use Rattle.esc_kitty.specs.Images.{delete_by, delete_in, delete_of};
@@ -6,7 +6,7 @@ ghost use Rattle.esc_kitty.specs.Images.{delete_by, delete_in, delete_of};
 use crate::delete::KittyImageDelete;
 use crate::keys::{Pair, number, signed, value};
 
-// What is deleted, if the keys say so.
+// Reads what is deleted, if the keys say so.
 pub(crate) fn read_delete(pairs: &[Pair<'_>]) -> Option<KittyImageDelete>
     ensures { result ≡ delete_of (values pairs.now) }
 {
@@ -16,7 +16,7 @@ pub(crate) fn read_delete(pairs: &[Pair<'_>]) -> Option<KittyImageDelete>
     }
 }
 
-// What a value of `d` deletes: one letter, of which a capital one deletes the data too.
+// Reads a value of `d`: one letter, whose capital deletes the data too.
 fn read_delete_in(word: &[u8], pairs: &[Pair<'_>]) -> Option<KittyImageDelete>
     ensures { result ≡ delete_in word.now (values pairs.now) }
 {
@@ -33,7 +33,7 @@ fn read_delete_in(word: &[u8], pairs: &[Pair<'_>]) -> Option<KittyImageDelete>
     }
 }
 
-// What a small letter deletes.
+// Reads what a small letter deletes.
 fn read_delete_by(letter: u8, delete: bool, pairs: &[Pair<'_>]) -> Option<KittyImageDelete>
     ensures { result ≡ delete_by letter delete (values pairs.now) }
 {

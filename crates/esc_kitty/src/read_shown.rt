@@ -1,4 +1,4 @@
-//! How placements and frames are read.
+//! This module reads placements and frames.
 ghost use Rattle.std.specs.Prelude.{◌≡◌};
 ghost use Rattle.esc_kitty.specs.Keys.{values};
 ghost use Rattle.esc_kitty.specs.Formats.{compose_of, frame_of, placement_of};
@@ -9,7 +9,7 @@ use crate::frame::KittyImageFrame;
 use crate::keys::{Pair, flag, nonzero, number, signed};
 use crate::placement::KittyImagePlacement;
 
-// How an image is shown, if the keys say so.
+// Reads how an image is shown, if the keys say so.
 pub(crate) fn read_placement(pairs: &[Pair<'_>]) -> Option<KittyImagePlacement>
     ensures { result ≡ placement_of (values pairs.now) }
 {
@@ -31,7 +31,7 @@ pub(crate) fn read_placement(pairs: &[Pair<'_>]) -> Option<KittyImagePlacement>
     })
 }
 
-// The frame that is sent, if the keys name one.
+// Reads the frame that is sent, if the keys name one.
 pub(crate) fn read_frame(pairs: &[Pair<'_>]) -> Option<KittyImageFrame>
     ensures { result ≡ frame_of (values pairs.now) }
 {
@@ -47,7 +47,7 @@ pub(crate) fn read_frame(pairs: &[Pair<'_>]) -> Option<KittyImageFrame>
     })
 }
 
-// The frames that are composed, if the keys name them.
+// Reads the frames that are composed, if the keys name them.
 pub(crate) fn read_compose(pairs: &[Pair<'_>]) -> Option<KittyImageFrameCompose>
     ensures { result ≡ compose_of (values pairs.now) }
 {

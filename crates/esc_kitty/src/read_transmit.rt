@@ -1,4 +1,4 @@
-//! How an image on its way to the terminal is read.
+//! This module reads an image that is sent to the terminal.
 ghost use Rattle.std.specs.Prelude.{◌≡◌, IfOk, OnErr};
 ghost use Rattle.fallible_alloc.specs.Refusals.{Refused};
 ghost use Rattle.esc_kitty.specs.Keys.{values};
@@ -19,7 +19,7 @@ use esc_values::base64_text::read_base64_text;
 use esc_values::scalar::text_in;
 use std::alloc::{AllocError, Allocator};
 
-// The image of these keys and this payload, if they are one.
+// Reads the image of these keys and this payload, if they are one.
 pub(crate) fn read_transmit<A: Allocator>(
     alloc: A,
     pairs: &[Pair<'_>],
@@ -52,7 +52,7 @@ pub(crate) fn read_transmit<A: Allocator>(
     }))
 }
 
-// What the image is made of, if the keys and the payload say so.
+// Reads the content of the image, if the keys and the payload have one.
 fn read_content<A: Allocator>(
     alloc: A,
     pairs: &[Pair<'_>],
@@ -67,7 +67,7 @@ fn read_content<A: Allocator>(
     read_content_by(alloc, medium, size, offset, payload)
 }
 
-// What the image is made of, by the value of `t`.
+// Reads the content of the image, by the value of `t`.
 fn read_content_by<A: Allocator>(
     alloc: A,
     medium: &str,
@@ -93,7 +93,7 @@ fn read_content_by<A: Allocator>(
     }
 }
 
-// The payload as it is, where it is a text.
+// Reads the payload as it is, if it is a text.
 fn read_direct<A: Allocator>(
     alloc: A,
     payload: &[u8],
@@ -107,7 +107,7 @@ fn read_direct<A: Allocator>(
     Ok(Some(KittyImageData::Direct(Text::from_str(alloc, text)?)))
 }
 
-// What the payload names, where it is the base64 of a text.
+// Reads the name in the payload, if the payload is the base64 of a text.
 fn read_named<A: Allocator>(
     alloc: A,
     medium: Medium,
@@ -125,7 +125,7 @@ fn read_named<A: Allocator>(
     }
 }
 
-// What a payload may name.
+// A payload may name one of these.
 #[derive(Clone, Copy)]
 enum Medium {
     File,
@@ -134,7 +134,7 @@ enum Medium {
 }
 
 impl Medium {
-    // What is named so.
+    // Returns the content with this name.
     fn named<A: Allocator>(
         self,
         name: Text<A>,

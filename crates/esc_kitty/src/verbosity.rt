@@ -1,9 +1,9 @@
-//! What the terminal reports of a command.
+//! This module says what the terminal reports of a command.
 ghost use Rattle.std.specs.Prelude.{◌≡◌};
 ghost use Rattle.std.specs.Option.{option_map};
 ghost use Rattle.esc_kitty.specs.Words.{verbosity_of, verbosity_word};
 
-/// What the terminal reports of a command (key `q`).
+/// The verbosity says what the terminal reports of a command (key `q`).
 #[derive(Clone, Copy, Debug, PartialEq, Eq)]
 pub enum KittyImageVerbosity {
     /// `0`: successes and errors. This is the default.
@@ -15,7 +15,7 @@ pub enum KittyImageVerbosity {
 }
 
 impl KittyImageVerbosity {
-    // What a value of `q` names, if it names one.
+    // Returns the verbosity that a value of `q` names, if it names one.
     pub(crate) fn read(value: Option<&str>) -> Option<KittyImageVerbosity>
         ensures { result ≡ verbosity_of (option_map (λ w. w.now) value.entry) }
     {
@@ -30,7 +30,7 @@ impl KittyImageVerbosity {
         }
     }
 
-    // The value of `q`, unless this is the default.
+    // Returns the value of `q`, unless this is the default.
     pub(crate) fn word(self) -> Option<&'static str>
         ensures { option_map (λ w. w.now) result ≡ verbosity_word self }
     {

@@ -1,4 +1,4 @@
-//! The texts of images.
+//! This module writes images.
 ghost use Rattle.std.specs.Prelude.{Some};
 ghost use Rattle.std.specs.Fmt.{DisplaysOnOk};
 ghost use Rattle.esc_kitty.specs.Texts.{image_keys, image_text, keys_text, payload_text};
@@ -10,13 +10,12 @@ use crate::write_transmit::{write_frame, write_query, write_shown, write_transmi
 use std::alloc::Allocator;
 use std::fmt;
 
-/// Writes `ESC _ G`, the keys with their values in the order of their bytes, `,` between them, and,
-/// wherever something is transmitted, `;` and the payload. What ends the command is left to the
-/// caller.
+/// Writes `ESC _ G`, the keys with their values in the order of their bytes, `,` between them, and
+/// `;` and the payload if something is transmitted. The caller writes the string terminator.
 ///
-/// A key is written where its field differs from what is read without the key; `a` always, but for
-/// `TransmitData` only where it is the only key; `d` for every deletion. Takes no memory, and errs
-/// only where the writer below the formatter errs.
+/// A key is written if its field differs from the value that is read without the key; `a` always,
+/// except that `TransmitData` has it only if it is the only key; `d` for every deletion. Takes no
+/// memory, and returns an error only if the writer below the formatter does.
 impl<A: Allocator> fmt::Display for KittyImage<A> {
     ghost output = { λ i. Some (image_text i) };
 
@@ -27,7 +26,7 @@ impl<A: Allocator> fmt::Display for KittyImage<A> {
     }
 }
 
-// The keys.
+// Writes the keys.
 fn write_image_keys<A: Allocator, W: fmt::Write>(
     image: &KittyImage<A>,
     f: &mut fmt::Formatter<W>,
@@ -62,7 +61,7 @@ fn write_image_keys<A: Allocator, W: fmt::Write>(
     }
 }
 
-// `;` and the payload, where something is transmitted.
+// Writes `;` and the payload, if something is transmitted.
 fn write_payload<A: Allocator, W: fmt::Write>(
     image: &KittyImage<A>,
     f: &mut fmt::Formatter<W>,

@@ -1,4 +1,4 @@
-//! How deletions are written.
+//! This module writes deletions.
 ghost use Rattle.std.specs.Prelude.{◌≡◌, ◌-◌, ◌≤◌, [], ◌∷◌, Some};
 ghost use Rattle.std.specs.Char.{encode_utf8};
 ghost use Rattle.std.specs.Fmt.{DisplaysOnOk};
@@ -11,7 +11,7 @@ use crate::write_keys::Value::{Letter, Number, Signed, Word};
 use crate::write_keys::{Key, write_keys};
 use std::fmt;
 
-// The keys of a deletion.
+// Writes the keys of a deletion.
 pub(crate) fn write_delete<W: fmt::Write>(
     what: &KittyImageDelete,
     verbosity: KittyImageVerbosity,
@@ -83,7 +83,7 @@ pub(crate) fn write_delete<W: fmt::Write>(
     }
 }
 
-// The letter, a capital where the data too is deleted.
+// Returns the letter, a capital if the data is deleted too.
 #[tactic(auto, using(std::proofs::lemmas::Str::encode_ascii))]
 fn letter(delete: bool, small: u8) -> char
     requires { (0x61 ≤ small) × (small ≤ 0x7a) }
@@ -96,7 +96,7 @@ fn letter(delete: bool, small: u8) -> char
     }
 }
 
-// The keys of a deletion by id or number.
+// Writes the keys of a deletion by id or number.
 fn write_named<W: fmt::Write>(
     delete: bool,
     small: u8,
@@ -122,7 +122,7 @@ fn write_named<W: fmt::Write>(
     write_keys(&keys, f)
 }
 
-// The keys of any other deletion.
+// Writes the keys of any other deletion.
 fn write_placed<W: fmt::Write>(
     delete: bool,
     small: u8,

@@ -1,4 +1,4 @@
-//! The texts of keys.
+//! This module writes keys.
 ghost use Rattle.std.specs.Prelude.{◌≡◌, ◌&&◌, not, [], map, Some};
 ghost use Rattle.std.specs.Fmt.{DisplaysOnOk};
 ghost use Rattle.std.specs.Option.{is_some, option_map, unwrap_or};
@@ -8,7 +8,7 @@ ghost use Rattle.esc_kitty.specs.Words.{flag_word};
 
 use std::fmt;
 
-// The value of a key, where it is written.
+// This is the value of a key, if it is written.
 #[derive(Clone, Copy)]
 pub(crate) enum Value<'a> {
     Number(Option<u32>),
@@ -44,11 +44,11 @@ impl fmt::Display for Value<'_> {
     }
 }
 
-// A key with its value.
+// This is a key with its value.
 #[derive(Clone, Copy)]
 pub(crate) struct Key<'a>(pub(crate) char, pub(crate) Value<'a>);
 
-// A key with its value, if it is written, and a `,` before it, unless it is the first.
+// Writes a key with its value, if it is written, and a `,` before it, unless it is the first.
 fn write_key<W: fmt::Write>(key: &Key<'_>, is_first: bool, f: &mut fmt::Formatter<W>) -> fmt::Result
     ensures { DisplaysOnOk W.write_str_gives f.old result
         (Some (entry_text is_first (entry key.now))) f.new }
@@ -61,21 +61,21 @@ fn write_key<W: fmt::Write>(key: &Key<'_>, is_first: bool, f: &mut fmt::Formatte
     write!(f, "{separator}{name}={value}")
 }
 
-// What comes before a key.
+// Returns the text before a key.
 fn separator(is_first: bool) -> &'static str
     ensures { result.now ≡ separator is_first }
 {
     if is_first { "" } else { "," }
 }
 
-// Whether the next key is the first that is written.
+// Returns whether the next key is the first that is written.
 fn is_still_first(is_first: bool, key: &Key<'_>) -> bool
     ensures { result ≡ (is_first && not (is_some (value_text key.now.1))) }
 {
     is_first && !key.1.is_written()
 }
 
-// The keys that are written, with `,` between them.
+// Writes the keys that have a value, with `,` between them.
 pub(crate) fn write_keys<W: fmt::Write>(keys: &[Key<'_>], f: &mut fmt::Formatter<W>) -> fmt::Result
     ensures { DisplaysOnOk W.write_str_gives f.old result
         (Some (keys_text (written (map entry keys.now)))) f.new }
@@ -88,7 +88,7 @@ pub(crate) fn write_keys<W: fmt::Write>(keys: &[Key<'_>], f: &mut fmt::Formatter
     Ok(())
 }
 
-// Whether no key is written.
+// Returns whether no key is written.
 pub(crate) fn is_bare(keys: &[Key<'_>]) -> bool
     ensures { result ≡ is_bare (written (map entry keys.now)) }
 {
@@ -100,7 +100,7 @@ pub(crate) fn is_bare(keys: &[Key<'_>]) -> bool
     true
 }
 
-// The value of a flag, where it is true.
+// Returns the value of a flag, if it is true.
 pub(crate) fn flag_word(flag: bool) -> Option<&'static str>
     ensures { option_map (λ w. w.now) result ≡ flag_word flag }
 {

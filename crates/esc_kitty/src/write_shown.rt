@@ -1,4 +1,4 @@
-//! How what is transmitted no more is written.
+//! This module writes images that were transmitted before.
 ghost use Rattle.std.specs.Prelude.{Some};
 ghost use Rattle.std.specs.Fmt.{DisplaysOnOk};
 ghost use Rattle.esc_values.specs.Fields.{written};
@@ -11,7 +11,7 @@ use crate::write_keys::Value::{Letter, Number, Signed, Word};
 use crate::write_keys::{Key, flag_word, write_keys};
 use std::fmt;
 
-// The keys of an image that is shown.
+// Writes the keys of an image that is shown.
 pub(crate) fn write_display<W: fmt::Write>(
     image_id: Option<u32>,
     image_number: Option<u32>,
@@ -44,7 +44,7 @@ pub(crate) fn write_display<W: fmt::Write>(
     write_keys(&keys, f)
 }
 
-// The keys of frames that are composed.
+// Writes the keys of frames that are composed.
 pub(crate) fn write_compose<W: fmt::Write>(
     frame: &KittyImageFrameCompose,
     verbosity: KittyImageVerbosity,

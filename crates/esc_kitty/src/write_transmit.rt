@@ -1,4 +1,4 @@
-//! How what is transmitted is written.
+//! This module writes images with their pixels.
 ghost use Rattle.std.specs.Prelude.{map, Some};
 ghost use Rattle.std.specs.Fmt.{DisplaysOnOk};
 ghost use Rattle.esc_values.specs.Fields.{written};
@@ -14,7 +14,7 @@ use crate::write_keys::{Key, flag_word, is_bare, write_keys};
 use std::alloc::Allocator;
 use std::fmt;
 
-// The keys of an image that is kept.
+// Writes the keys of an image that is kept.
 pub(crate) fn write_transmit<A: Allocator, W: fmt::Write>(
     transmit: &KittyImageTransmit<A>,
     verbosity: KittyImageVerbosity,
@@ -40,7 +40,7 @@ pub(crate) fn write_transmit<A: Allocator, W: fmt::Write>(
     write_or_action(&keys, f)
 }
 
-// The keys, or `a=t` where none is written.
+// Writes the keys, or `a=t` if none is written.
 fn write_or_action<W: fmt::Write>(keys: &[Key<'_>], f: &mut fmt::Formatter<W>) -> fmt::Result
     ensures { DisplaysOnOk W.write_str_gives f.old result
         (Some (keys_text (or_action (written (map entry keys.now))))) f.new }
@@ -51,7 +51,7 @@ fn write_or_action<W: fmt::Write>(keys: &[Key<'_>], f: &mut fmt::Formatter<W>) -
     write_keys(keys, f)
 }
 
-// The keys of a query.
+// Writes the keys of a query.
 pub(crate) fn write_query<A: Allocator, W: fmt::Write>(
     transmit: &KittyImageTransmit<A>,
     f: &mut fmt::Formatter<W>,
@@ -76,7 +76,7 @@ pub(crate) fn write_query<A: Allocator, W: fmt::Write>(
     write_keys(&keys, f)
 }
 
-// The keys of an image that is kept and shown.
+// Writes the keys of an image that is kept and shown.
 pub(crate) fn write_shown<A: Allocator, W: fmt::Write>(
     transmit: &KittyImageTransmit<A>,
     placement: &KittyImagePlacement,
@@ -116,7 +116,7 @@ pub(crate) fn write_shown<A: Allocator, W: fmt::Write>(
     write_keys(&keys, f)
 }
 
-// The keys of a frame.
+// Writes the keys of a frame.
 pub(crate) fn write_frame<A: Allocator, W: fmt::Write>(
     transmit: &KittyImageTransmit<A>,
     frame: &KittyImageFrame,

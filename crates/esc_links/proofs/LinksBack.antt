@@ -1,4 +1,4 @@
--- What is read of clear parts as a hyperlink, or as none, reads back from its text.
+-- A hyperlink, or none, that is read from clear parts reads back from its text.
 use Rattle.std.proofs.Common.{ℕ, ◌≡◌, ◌≢◌, ◌==◌, List, [], ◌∷◌, ◌++◌, codes, Option, Some, None, refl, sym, ap, ◌∙◌, subst}
 use Rattle.std.specs.List.{slice_split}
 use Rattle.std.specs.Option.{option_map}
@@ -69,7 +69,7 @@ module _ (A : Type 0) where
     ) refl,
   )
 
-  -- what is read
+  -- a link that was read reads back
   by_params : (o : Option Pairs) (uri : List ℕ) → Where AreReadable o → IsClearPart uri
       → Where (ReadsAs {A = A})
       (and_then o (λ es. option_map (λ u. Some (link_to es u)) (utf8_of uri)))
@@ -95,7 +95,7 @@ module _ {A : Type 0} where
   reads_as ps h v e = let P : Option (Option (Hyperlink A)) → Type 0 =
       λ o. Where (ReadsAs {A = A}) o in subst P e (read_of A ps h.0)
 
-  -- the parts of the text of what is read: `8` and two parts, which are read as the same
+  -- the parts of the text of a link that was read are `8` and two parts, which are read as the same
   pub link_parts : (ps : List (List ℕ)) → AreTextParts ps → (v : Option (Hyperlink A))
       → link_of ps ≡ Some v
       → (p1 : List ℕ) × (p2 : List ℕ) × IsClearText (link_text v)

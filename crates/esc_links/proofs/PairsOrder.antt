@@ -1,5 +1,5 @@
--- Pairs in the order of their keys: putting keeps the order, and pairs in order are what putting
--- them in gives.
+-- Pairs stand in the order of their keys: putting keeps the order, and putting in pairs in order
+-- gives these pairs.
 use Rattle.std.proofs.Common.{ℕ, ◌≡◌, ◌≢◌, List, [], ◌∷◌, ◌++◌, refl, ap, sym, ◌∙◌, append_assoc}
 use Rattle.std.specs.Cmp.Lexicographic.{slice_cmp, nat_list_cmp_total}
 use Rattle.std.specs.declared.cmp.Ordering.{Ordering}
@@ -64,7 +64,7 @@ pub all_ordered : (es qs : Pairs) → AreOrdered es → AreOrdered (put_all es q
 all_ordered es [] h = h
 all_ordered es (q ∷ qs) h = all_ordered (pairs_with q.0 q.1 es) qs (put_ordered q.0 q.1 es h)
 
--- what is put is there
+-- a pair that was put is there
 some_cons : (e : List ℕ × List ℕ) (es : Pairs) → e ∷ es ≢ []
 some_cons e es h = cc
 

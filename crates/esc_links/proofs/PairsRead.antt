@@ -50,7 +50,7 @@ more_by : (es : Pairs) (e : List ℕ × List ℕ) (o : Option Pairs)
 more_by es e None = refl
 more_by es e (Some qs) = refl
 
--- what a stretch puts
+-- the pairs after a stretch
 abbrev pub put_of : Pairs → List ℕ → Option Pairs
 put_of es p = option_map (λ e. pairs_with e.0 e.1 es) (key_and_value p)
 

@@ -1,4 +1,4 @@
--- What is read as parameters reads back from its text.
+-- Parameters that were read read back from their text.
 use Rattle.std.proofs.Common.{ℕ, ◌≡◌, ◌≢◌, List, [], ◌∷◌, ◌++◌, map, Option, Some, None, lit<, refl, ap, sym, ◌∙◌, subst}
 use Rattle.std.specs.declared.cmp.Ordering.{Ordering}
 use Rattle.std.specs.declared.cmp.Ordering.TheVariants.{Less, Equal, Greater}
@@ -51,7 +51,7 @@ some_pairs t ts = by (key_and_value t) (pairs_in ts)
     by (Some q) None = tt
     by (Some q) (Some more) = (q, more, refl)
 
--- putting keeps what is good
+-- putting a good pair keeps all good
 put_good : (k v : List ℕ) (es : Pairs) → IsGood (k, v) → AreGood es → AreGood (pairs_with k v es)
 put_good k v [] h all = (h, tt)
 put_good k v (e ∷ es) h all = by (slice_cmp nat_cmp k e.0) refl (put_good k v es h all.1)
@@ -85,7 +85,7 @@ readable_pairs t ts h =
     (where_both AreGood (λ qs. (q : List ℕ × List ℕ) × (more : Pairs)
     × (qs ≡ q ∷ more)) (pairs_in (t ∷ ts)) (good_pairs (t ∷ ts) h) (some_pairs t ts))
 
--- what is read of a clear part that is not empty can be written
+-- parameters that are read from a clear part, not empty, can be written
 readable_split : (t : List ℕ) → SplitsAt 0x3a t
     → Where AreReadable (option_map (λ qs. put_all [] qs) (pairs_in (slice_split is_colon t)))
 readable_split t (p, ps, is, one, more) =

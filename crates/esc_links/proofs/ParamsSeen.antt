@@ -23,7 +23,7 @@ module _ {A : Type 0} where
   shown_by Equal a b c = refl
   shown_by Greater a b c = refl
 
-  -- what is inserted is put
+  -- an inserted pair is put
   pub put_shown : (es : List (String A × String A)) (k v : String A)
       → map shown (insert_entry string_cmp es k v) ≡ pairs_with (string_bytes k) (string_bytes v)
       (map shown es)
@@ -43,7 +43,7 @@ module _ {A : Type 0} where
   value_by q e es true h is = rw (is, sym (is_eq-slice_cmp q (string_bytes e.0)) ∙ is) refl
   value_by q e es false h is = rw (is, sym (is_eq-slice_cmp q (string_bytes e.0)) ∙ is) h
 
-  -- what is looked up is the value there
+  -- the value that is looked up is the one there
   pub value_shown : (q : List ℕ) (es : List (String A × String A))
       → option_map string_bytes (lookup (λ k. is_eq (slice_cmp nat_cmp q (string_bytes k))) es)
       ≡ value_at q (map shown es)

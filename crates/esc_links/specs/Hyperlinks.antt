@@ -30,8 +30,8 @@ value_at k es = lookup (bytes_eq k) es
 abbrev pub is_colon : ℕ → Bool
 is_colon c = c == 0x3a
 
--- The parameters that a text holds between its first two `;`: keys and values between `:`, of which
--- a later one replaces an earlier one of the same key; none where it is empty.
+-- These are the parameters in a text between its first two `;`: keys and values between `:`; a
+-- later one replaces an earlier one of the same key; none if it is empty.
 abbrev pub params_of : List ℕ → Option Pairs
 params_of [] = Some []
 params_of (b ∷ t) = option_map (λ es. put_all [] es) (pairs_in (slice_split is_colon (b ∷ t)))
@@ -55,8 +55,8 @@ module _ {A : Type 0} where
   link_in [] [] = Some None
   link_in p uri = and_then (params_of p) (λ es. option_map (λ u. Some (link_to es u)) (utf8_of uri))
 
-  -- What the parts of a text are: three parts, of which the second has the parameters and the third
-  -- the address. The first is not looked at.
+  -- The parts of a text are this link: the second of three has the parameters, and the third is the
+  -- address. The first is not looked at.
   abbrev pub link_of : List (List ℕ) → Option (Option (Hyperlink A))
   link_of (p0 ∷ p1 ∷ p2 ∷ []) = link_in p1 p2
   link_of _ = None

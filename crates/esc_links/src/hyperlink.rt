@@ -1,4 +1,4 @@
-//! Hyperlinks ("Hyperlinks in terminal emulators",
+//! This module defines hyperlinks ("Hyperlinks in terminal emulators",
 //! <https://gist.github.com/egmontkob/eb114294efbcd5adb1944c9f3cb5feda>).
 ghost use Rattle.std.specs.Prelude.{◌≡◌, ◌⊎◌, [], ◌∷◌, codes, map, IfOk, IfErr, OnOk, OnErr, Some, None};
 ghost use Rattle.std.specs.Fmt.{DisplaysOnOk};
@@ -16,8 +16,8 @@ use esc_values::{Error, Text};
 use std::alloc::{AllocError, Allocator, Global};
 use std::fmt;
 
-/// A hyperlink: where the characters that follow lead to ("Hyperlinks in terminal emulators", the
-/// command OSC 8).
+/// A hyperlink names the target of the characters that follow ("Hyperlinks in terminal emulators",
+/// the command OSC 8).
 #[derive(Drop)]
 #[derive_where(Debug, PartialEq)]
 pub struct Hyperlink<A: Allocator = Global> {
@@ -26,12 +26,13 @@ pub struct Hyperlink<A: Allocator = Global> {
     pub params: Params<A>,
     /// The address.
     pub uri: Text<A>,
-    /// Whether the terminal found it in the text itself. What is read or made here has false.
+    /// Says whether the terminal found it in the text itself. A link that is read or made here has
+    /// false.
     pub implicit: bool,
 }
 
 impl<A: Allocator + Copy> Hyperlink<A> {
-    /// The link to this address, without parameters. The error is that memory was refused.
+    /// Returns the link to this address, without parameters. The error is that memory was refused.
     pub fn new(alloc: A, uri: &str) -> Result<Hyperlink<A>, AllocError>
         ensures ok { IfOk result (λ h. h ≡ link_to [] uri.now) }
         ensures refused { OnErr result (Refused A) }
@@ -39,7 +40,8 @@ impl<A: Allocator + Copy> Hyperlink<A> {
         linked(alloc, Params::new(alloc), uri)
     }
 
-    /// The link to this address with the parameter `id`. The error is that memory was refused.
+    /// Returns the link to this address with the parameter `id`. The error is that memory was
+    /// refused.
     pub fn new_with_id(alloc: A, uri: &str, id: &str) -> Result<Hyperlink<A>, AllocError>
         ensures ok { IfOk result (λ h. h ≡ link_to ((codes "id", id.now) ∷ []) uri.now) }
         ensures refused { OnErr result (Refused A) }
@@ -47,13 +49,13 @@ impl<A: Allocator + Copy> Hyperlink<A> {
         linked(alloc, id_params(alloc, id)?, uri)
     }
 
-    /// What the parts of a text between `;` are: three parts, of which the first is not looked at,
-    /// the second has the parameters and the third is the address. The parameters are `key=value`
-    /// with `:` between them, each cut at its first `=`, and a later one replaces an earlier one of
-    /// the same key. Where both are empty there is no link.
+    /// Returns the link of the parts of a text between `;`: three parts, the first of which is not
+    /// looked at, the second has the parameters and the third is the address. The parameters are
+    /// `key=value` with `:` between them, each cut at its first `=`, and a later one replaces an
+    /// earlier one of the same key. If both are empty there is no link.
     ///
-    /// The errors are `Error::Invalid`, where there are not three parts, a parameter has no `=`, or
-    /// a key, a value or the address is not UTF-8; and `Error::Memory`, where memory was refused.
+    /// The errors are `Error::Invalid`, if there are not three parts, a parameter has no `=`, or a
+    /// key, a value or the address is not UTF-8; and `Error::Memory`, if memory was refused.
     pub fn parse(alloc: A, parts: &[&[u8]]) -> Result<Option<Hyperlink<A>>, Error>
         ensures read { IfOk result (λ v. link_of (map (λ p. p.now) parts.now) ≡ Some v) }
         ensures invalid { IfErr result (λ e. e ≡ Invalid
@@ -67,7 +69,7 @@ impl<A: Allocator + Copy> Hyperlink<A> {
     }
 }
 
-// The parameter `id`.
+// Returns the parameter `id`.
 fn id_params<A: Allocator + Copy>(alloc: A, id: &str) -> Result<Params<A>, AllocError>
     ensures ok { IfOk result (λ p. p ≡ (codes "id", id.now) ∷ []) }
     ensures refused { OnErr result (Refused A) }
@@ -77,7 +79,7 @@ fn id_params<A: Allocator + Copy>(alloc: A, id: &str) -> Result<Params<A>, Alloc
     Ok(params)
 }
 
-// The link to this address with these parameters.
+// Returns the link to this address with these parameters.
 fn linked<A: Allocator>(alloc: A, params: Params<A>, uri: &str) -> Result<Hyperlink<A>, AllocError>
     ensures ok { IfOk result (λ h. h ≡ link_to params uri.now) }
     ensures refused { OnErr result (Refused A) }
@@ -89,7 +91,7 @@ fn linked<A: Allocator>(alloc: A, params: Params<A>, uri: &str) -> Result<Hyperl
     })
 }
 
-// The link of parameters and an address; no link where both are empty.
+// Reads the link of parameters and an address; no link if both are empty.
 fn read_link<A: Allocator + Copy>(
     alloc: A,
     params: &[u8],
@@ -112,7 +114,7 @@ fn read_link<A: Allocator + Copy>(
     }
 }
 
-// The parameters that a text holds, between `:`.
+// Reads the parameters of a text, between `:`.
 fn read_params<A: Allocator + Copy>(alloc: A, text: &[u8]) -> Result<Params<A>, Error>
     ensures read { IfOk result (λ p. params_of text.now ≡ Some p) }
     ensures invalid { IfErr result (λ e. e ≡ Invalid → params_of text.now ≡ None) }
@@ -168,7 +170,7 @@ fn put_texts<A: Allocator + Copy>(
 }
 
 /// Writes `8;`, the parameters as `key=value` in order with `:` between them, `;` and the address.
-/// Where it returns `Ok`, all of it was written.
+/// If it returns `Ok`, all of it was written.
 impl<A: Allocator> fmt::Display for Hyperlink<A> {
     ghost output = { λ h. Some (hyperlink_text h) };
 
@@ -180,7 +182,7 @@ impl<A: Allocator> fmt::Display for Hyperlink<A> {
     }
 }
 
-// The parameters, with `:` between them.
+// Writes the parameters, with `:` between them.
 fn write_params<A: Allocator, W: fmt::Write>(
     params: &Params<A>,
     f: &mut fmt::Formatter<W>,
@@ -195,7 +197,7 @@ fn write_params<A: Allocator, W: fmt::Write>(
     write_rest(pairs, f)
 }
 
-// The pairs, with `:` before each.
+// Writes the pairs, with `:` before each.
 fn write_rest<A: Allocator, W: fmt::Write>(
     mut pairs: Iter<'_, A>,
     f: &mut fmt::Formatter<W>,

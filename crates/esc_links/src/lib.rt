@@ -1,4 +1,4 @@
-//! Hyperlinks, after "Hyperlinks in terminal emulators"
+//! This crate has hyperlinks, after "Hyperlinks in terminal emulators"
 //! (<https://gist.github.com/egmontkob/eb114294efbcd5adb1944c9f3cb5feda>).
 //!
 //! `OSC 8 ; id=a ; https://example.com ST` opens a link: `Hyperlink::new_with_id(alloc,

@@ -1,4 +1,4 @@
-//! The parameters of a hyperlink.
+//! This module defines the parameters of a hyperlink.
 ghost use Rattle.fallible_alloc.specs.Refusals.{Refused};
 ghost use Rattle.std.specs.Prelude.{◌≡◌, ℕ, ◌<◌, ◌&&◌, List, [], length, map, nat_eq, IsTrue, ◌↔◌, string_bytes, OnOk, OnErr};
 ghost use Rattle.std.specs.Cmp.Lexicographic.{pointwise, lists_per, nat_list_eq_equiv};
@@ -14,11 +14,11 @@ use std::collections::{BTreeMap, btree_map};
 use std::fmt;
 use std::marker::Model;
 
-/// Keys with their values, in the order of the keys' UTF-8 bytes, each key once. Contracts see the
-/// pairs of their bytes.
+/// The parameters are keys with their values, in the order of the keys' UTF-8 bytes, each key once.
+/// Contracts see the pairs of their bytes.
 ///
-/// Any texts may be keys and values. Those of a link that is to be read again are clear and have no
-/// `:` or `;`, and its keys have no `=`.
+/// Any texts may be keys and values. Those of a link that reads back are clear and have no `:` or
+/// `;`, and its keys have no `=`.
 #[derive(Drop)]
 pub struct Params<A: Allocator = Global> {
     tree: BTreeMap<String<A>, String<A>, A>,
@@ -33,7 +33,7 @@ impl<A: Allocator> Model for Params<A> {
 }
 
 impl<A: Allocator> Params<A> {
-    /// No keys.
+    /// Returns parameters without keys.
     pub fn new(alloc: A) -> Params<A>
         ensures { result ≡ [] }
     {
@@ -42,7 +42,7 @@ impl<A: Allocator> Params<A> {
         }
     }
 
-    /// The value of this key, where it is there.
+    /// Returns the value of this key, if it is there.
     pub fn get(&self, key: &str) -> Option<&str>
         ensures { option_map (λ v. v.now) result ≡ value_at key.now self.now }
     {
@@ -52,21 +52,21 @@ impl<A: Allocator> Params<A> {
         }
     }
 
-    /// How many keys it has.
+    /// Returns how many keys there are.
     pub fn len(&self) -> usize
         ensures { result ≡ length self.now }
     {
         self.tree.len()
     }
 
-    /// Whether it has no keys.
+    /// Returns whether there are no keys.
     pub fn is_empty(&self) -> bool
         ensures { IsTrue result ↔ (self.now ≡ []) }
     {
         self.tree.is_empty()
     }
 
-    /// The keys with their values, in order.
+    /// Returns the keys with their values, in order.
     pub fn iter(&self) -> Iter<'_, A>
         ensures { result ≡ self.now }
     {
@@ -122,7 +122,7 @@ impl<A: Allocator> fmt::Debug for Params<A> {
     }
 }
 
-/// Gives keys with their values, one after another. Contracts see the pairs that are left.
+/// Gives keys with their values, one after another. Contracts see the rest of the pairs.
 #[derive(Drop)]
 pub struct Iter<'a, A: Allocator = Global> {
     entries: btree_map::Iter<'a, String<A>, String<A>>,

@@ -37,7 +37,7 @@ pub trait StreamFilter<A: Allocator> {
         ensures refused { (m c : List ℕ → List ℕ) (s : List ℕ) → gives self.old m c s
             → OnErr result (Refused A) };
 
-    /// The text that the last call added.
+    /// Returns the text that the last call added.
     fn output_text(&self) -> &str
         ensures { result.now ≡ added self.now };
 }

@@ -1,4 +1,4 @@
-//! From a stream to the text of a filter that takes it in chunks.
+//! This module writes the text of a filter that takes a stream in chunks.
 ghost use Rattle.std.specs.Prelude.{ℕ, ◌≡◌, ◌<◌, ◌++◌, List, length, IfErr, IsErrOf, OnErr, OnOk};
 ghost use Rattle.esc_normal.specs.Io.{FailsWith, Writes, WritesPrefix};
 ghost use Rattle.esc_normal.specs.Streams.{FeedsAll, Filters, HasEnded, IsEither, New, PassesOn, PassesPrefixOn, WritesAdded};
@@ -10,7 +10,7 @@ use crate::watched::Watched;
 use std::alloc::Allocator;
 use std::io::{Read, Write};
 
-/// How often [`pump`] reads a stream at most.
+/// Says how often [`pump`] reads a stream at most.
 pub const MOST_READS: u64 = u64::MAX;
 
 /// Reads to the end, and writes the text that the filter, which gives these texts and was fed
@@ -45,7 +45,7 @@ pub fn pump<R: Read, W: Write, F: StreamFilter<A>, A: Allocator + Copy>(
     }
 }
 
-// The same by way of this chunk, part by part of the record `Filters`.
+// Does the same by way of this chunk, part by part of the record `Filters`.
 fn filter_all<R: Read, W: Write, F: StreamFilter<A>, A: Allocator + Copy>(
     filter: &mut F,
     reader: &mut Watched<R>,

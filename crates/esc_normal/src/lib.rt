@@ -1,6 +1,6 @@
-//! From a stream to the text of its meaning: [`normal_text`], [`normalise`] and [`is_normal`]; the
-//! same as it comes, [`normalise_stream`], and chunk by chunk, [`Normaliser`]; and [`TextSink`],
-//! the sink that writes the actions that it takes.
+//! This crate writes the text of a stream's meaning: [`normal_text`], [`normalise`] and
+//! [`is_normal`]; the same as it comes, [`normalise_stream`], and chunk by chunk, [`Normaliser`];
+//! and [`TextSink`], the sink that writes the actions that it takes.
 //!
 //! The parser of `esc_parse` gives its actions to the writer of `esc_write`, with no list of
 //! actions in between. A [`StreamFilter`] takes a stream in chunks and has the text of each, as a

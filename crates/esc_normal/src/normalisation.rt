@@ -1,4 +1,4 @@
-//! From a stream to the text of its meaning.
+//! This module writes the text of a stream's meaning.
 ghost use Rattle.std.specs.Prelude.{◌≡◌, ℕ, List, [], true, Some, IfOk, IfErr, OnOk, OnErr, ◌<◌, length};
 ghost use Rattle.esc_normal.specs.Io.{FailsWith, Writes, WritesPrefix, had};
 ghost use Rattle.esc_normal.specs.Normalising.{normal_form};
@@ -38,7 +38,7 @@ pub fn normalise<R: Read, W: Write, A: Allocator + Copy>(
 
 /// [`normalise`] through a parser that keeps at most `limit` bytes of a segment, as
 /// [`Parser::with_limit`](esc_parse::Parser::with_limit) makes it. It still holds the whole input
-/// and its text.
+/// and its text. Its errors are those of [`normalise`].
 pub fn normalise_limited<R: Read, W: Write, A: Allocator + Copy>(
     alloc: A,
     reader: &mut Watched<R>,
@@ -50,8 +50,8 @@ pub fn normalise_limited<R: Read, W: Write, A: Allocator + Copy>(
     normalise_within(alloc, reader, writer, Some(limit))
 }
 
-/// Whether the bytes that the reader still has are the text that [`normalise`] writes for them.
-/// Reads to the end. It holds the whole input and its text.
+/// Returns whether the bytes that the reader still has are the text that [`normalise`] writes for
+/// them. Reads to the end. It holds the whole input and its text.
 ///
 /// It is true for a text that `normalise` wrote for a stream that means a writable list. The error
 /// is `NormaliseError::Read` or `Memory`. If the reader had not failed before, `Read` comes exactly
@@ -69,9 +69,9 @@ pub fn is_normal<R: Read, A: Allocator + Copy>(
     is_normal_within(alloc, reader, None)
 }
 
-/// Whether the bytes that the reader still has are the text that [`normalise_limited`] writes for
-/// them under this limit. Reads to the end. It holds the whole input and its text. The errors are
-/// those of [`is_normal`].
+/// Returns whether the bytes that the reader still has are the text that [`normalise_limited`]
+/// writes for them under this limit. Reads to the end. It holds the whole input and its text. The
+/// errors are those of [`is_normal`].
 pub fn is_normal_limited<R: Read, A: Allocator + Copy>(
     alloc: A,
     reader: &mut Watched<R>,
@@ -111,7 +111,7 @@ fn is_normal_within<R: Read, A: Allocator + Copy>(
     }
 }
 
-// All that the reader still had.
+// Returns all that the reader still had.
 fn read_whole<R: Read, A: Allocator + Copy>(
     alloc: A,
     reader: &mut Watched<R>,
@@ -124,7 +124,7 @@ fn read_whole<R: Read, A: Allocator + Copy>(
     read_by(alloc, reader, chunk.as_mut_slice())
 }
 
-// All that the reader still had, read by way of the chunk.
+// Returns all that the reader still had, read by way of the chunk.
 fn read_by<R: Read, A: Allocator>(
     alloc: A,
     reader: &mut Watched<R>,
@@ -147,8 +147,8 @@ fn read_by<R: Read, A: Allocator>(
     }
 }
 
-/// The normal form of these bytes: the text that [`normalise`] writes for them, or under a limit
-/// the text of [`normalise_limited`]. The error says that a request for memory was refused.
+/// Returns the normal form of these bytes: the text that [`normalise`] writes for them, or under a
+/// limit the text of [`normalise_limited`]. The error says that a request for memory was refused.
 pub fn normal_text<A: Allocator + Copy>(
     alloc: A,
     bytes: &[u8],
@@ -165,7 +165,7 @@ pub fn normal_text<A: Allocator + Copy>(
     }
 }
 
-/// A parser at the beginning of a stream, with or without a limit.
+/// Returns a parser at the beginning of a stream, with or without a limit.
 pub(crate) fn parser_within<A: Allocator + Copy>(alloc: A, limit: Option<usize>) -> Parser<A>
     ensures { ParserHasConsumedWithin limit [] result }
 {

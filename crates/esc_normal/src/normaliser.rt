@@ -28,9 +28,9 @@ pub struct Normaliser<A: Allocator = Global> {
 impl<A: Allocator + Copy> Normaliser<A> {
     ghost use Rattle.esc_normal.specs.Normalising.{After, IsBroken, Takes};
 
-    /// A normaliser at the beginning of a stream, which keeps at most `limit` bytes of a segment,
-    /// as [`Parser::with_limit`](esc_parse::Parser::with_limit) does, or as many as it has. Takes
-    /// no memory.
+    /// Returns a normaliser at the beginning of a stream, which keeps at most `limit` bytes of a
+    /// segment, as [`Parser::with_limit`](esc_parse::Parser::with_limit) does, or as many as it
+    /// has. Takes no memory.
     pub fn new(alloc: A, limit: Option<usize>) -> Normaliser<A>
         ensures fed { HasConsumed limit [] result }
         ensures empty { added_by result ≡ [] }
@@ -74,7 +74,7 @@ impl<A: Allocator + Copy> Normaliser<A> {
         self.spell = TextSink::new(self.alloc);
     }
 
-    /// The text that the bytes fed last added.
+    /// Returns the text that the bytes fed last added.
     pub fn text(&self) -> &str
         ensures { result.now ≡ added_by self.now }
     {

@@ -27,12 +27,12 @@ use std::str;
 pub struct TextSink<A: Allocator = Global> {
     /// The text so far.
     pub text: Text<A>,
-    /// Whether the last action was one that a string terminator ends.
+    /// Says whether the last action was one that a string terminator ends.
     pub follows_string: bool,
 }
 
 impl<A: Allocator> TextSink<A> {
-    /// No text yet. Takes no memory.
+    /// Returns an empty sink. Takes no memory.
     pub fn new(alloc: A) -> TextSink<A>
         ensures text { result.text ≡ [] }
         ensures plain { result.follows_string ≡ false }
@@ -43,7 +43,7 @@ impl<A: Allocator> TextSink<A> {
         }
     }
 
-    /// The same with an empty text, in the memory of this one.
+    /// Does the same with an empty text, in the memory of this one.
     #[inline]
     pub(crate) fn emptied(self) -> TextSink<A>
         ensures text { result.text ≡ [] }
@@ -94,7 +94,7 @@ impl<A: Allocator> TextSink<A> {
         Ok(())
     }
 
-    /// Appends the text of one that is known by its numbers.
+    /// Appends the text of one that is known by its numbers. The error is that memory was refused.
     #[inline(always)]
     pub fn write_short(&mut self, numbers: ShortNumbers, control: u8) -> Result<(), AllocError>
         requires { control < 128 }
@@ -108,7 +108,7 @@ impl<A: Allocator> TextSink<A> {
     }
 
     /// Appends the text of a command that is written as it came: `ESC ]`, these bytes, and the
-    /// string terminator.
+    /// string terminator. The error is that memory was refused.
     pub fn write_verbatim(&mut self, text: &str) -> Result<(), AllocError>
         ensures ok { OnOk result ((self.new.text ≡ self.old.text ++ framed_text text.now)
             × (self.new.follows_string ≡ true)) }

@@ -1,4 +1,4 @@
-//! From a stream to the text of its meaning, as it comes.
+//! This module writes the text of a stream's meaning as the stream comes.
 ghost use Rattle.std.specs.Prelude.{IfSome, IsErrOf, OnErr, OnOk};
 ghost use Rattle.esc_normal.specs.Io.{Writes, WritesPrefix, had};
 ghost use Rattle.esc_normal.specs.Normalising.{normal_form};

@@ -17,7 +17,7 @@ pub struct Watched<T> {
 impl<T> Watched<T> {
     ghost use Rattle.esc_normal.specs.Io.{has_failed, inner_of};
 
-    /// A reader or a writer around `inner` that has not failed.
+    /// Returns a reader or a writer around `inner` that has not failed.
     pub fn new(inner: T) -> Watched<T>
         ensures inner { inner_of result ≡ inner }
         ensures failed { has_failed result ≡ false }
@@ -28,7 +28,7 @@ impl<T> Watched<T> {
         }
     }
 
-    /// The inner reader or writer.
+    /// Returns the inner reader or writer.
     pub fn into_inner(self) -> T
         ensures { result ≡ inner_of self }
     {
@@ -36,7 +36,8 @@ impl<T> Watched<T> {
         inner
     }
 
-    /// Whether a call has returned an error, or a `write` of at least one byte has returned 0.
+    /// Returns whether a call has returned an error, or a `write` of at least one byte has returned
+    /// 0.
     pub fn failed(&self) -> bool
         ensures { result ≡ has_failed self.now }
     {

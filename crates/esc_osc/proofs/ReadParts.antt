@@ -1,4 +1,4 @@
--- What clear parts mean is writable.
+-- The command that clear parts mean is writable.
 use Rattle.std.proofs.Common.{ℕ, ◌≡◌, ◌<◌, nat_le, nat_eq, ◌&&◌, inl, inr, List, [], ◌∷◌, length, map, drop, codes, Option, Some, None, refl, sym, ap}
 use Rattle.std.proofs.Common.{subst, arith}
 use Rattle.std.specs.Char.{encode_utf8}

@@ -18,7 +18,7 @@ use Rattle.esc_osc.specs.declared.command.OperatingSystemCommand.TheVariants as 
 pub code_part : (k : OperatingSystemCommandCode) → IsClearPart (code_text k)
 code_part k = plain_part (code_text k) (code_plain k)
 
--- what a code reads
+-- a code reads the parts after it
 pub code_means : {A : Type 0} (k : OperatingSystemCommandCode) (args : List (List ℕ))
     → fitting {A = A} (code_text k ∷ args) ≡ reading k (code_text k) args
 code_means k args = rw (

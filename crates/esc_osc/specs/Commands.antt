@@ -26,7 +26,7 @@ titled c t = code_text c ++ 0x3b ∷ t
 abbrev pub listed_text : {X : Type 0} → OperatingSystemCommandCode → (X → List ℕ) → List X → List ℕ
 listed_text c f xs = code_text c ++ flat_map (λ x. 0x3b ∷ f x) xs
 
--- what comes between `ESC ]` and the terminator
+-- the text between `ESC ]` and the string terminator
 abbrev pub inner_text : {A : Type 0} → OperatingSystemCommand A → List ℕ
 inner_text (command.SetIconNameAndWindowTitle t) = titled code.SetIconNameAndWindowTitle t
 inner_text (command.SetWindowTitle t) = titled code.SetWindowTitle t

@@ -1,4 +1,4 @@
--- What parts mean.
+-- Parts mean a command.
 use Rattle.std.specs.Prelude.{ℕ, nat_eq, if◌then◌else◌, List, [], ◌∷◌, map, drop, codes, Option, Some, None}
 use Rattle.std.specs.Cmp.Lexicographic.{pointwise}
 use Rattle.std.specs.Option.{option_map, unwrap_or}
@@ -45,8 +45,8 @@ dynamic_command (Some n) r args = option_map (command.ChangeDynamicColors n) (co
 dynamic_command None (Some n) args = Some (command.ResetDynamicColor n)
 dynamic_command None None args = None
 
--- what a code makes of the lossy text of the first part and the parts after it, one line a code;
--- none where they do not fit it
+-- the command of a code, the lossy text of the first part and the parts after it, one line a
+-- code; none if they do not fit it
 abbrev pub reading : {A : Type 0} → OperatingSystemCommandCode → List ℕ → List (List ℕ)
     → Option (OperatingSystemCommand A)
 reading code.SetIconNameAndWindowTitle t args =
@@ -68,7 +68,7 @@ reading code.SetWindowTitleSun t args = option_map command.SetWindowTitleSun (ut
 reading code.SetIconNameSun t args = option_map command.SetIconNameSun (utf8_of (drop 1 t))
 reading c t args = dynamic_command (changed_by c) (reset_by c) args
 
--- what the code that the first part's lossy text names makes of the parts after it
+-- the command of the code that the first part's lossy text names, and of the parts after it
 abbrev pub named_command : {A : Type 0} → List ℕ → List (List ℕ) → Option (OperatingSystemCommand A)
 named_command t args = and_then (code_of (code_name t args)) (λ c. reading c t args)
 
@@ -77,6 +77,6 @@ abbrev pub fitting : {A : Type 0} → List (List ℕ) → Option (OperatingSyste
 fitting [] = None
 fitting (p ∷ args) = named_command (utf8_lossy p) args
 
--- what parts mean: the case that fits, else the parts as they are
+-- the meaning of parts: the case that fits, else the parts as they are
 abbrev pub meaning : {A : Type 0} → List (List ℕ) → OperatingSystemCommand A
 meaning ps = unwrap_or (fitting ps) (command.Unspecified ps)

@@ -1,4 +1,5 @@
-//! Operating system commands (<https://invisible-island.net/xterm/ctlseqs/ctlseqs.html>).
+//! This module defines operating system commands
+//! (<https://invisible-island.net/xterm/ctlseqs/ctlseqs.html>).
 ghost use Rattle.std.specs.Prelude.{◌≡◌, IfSome, is_none};
 ghost use Rattle.esc_osc.specs.Commands.{code_under, inner_text, is_unspecified, IsUnder};
 
@@ -15,7 +16,7 @@ use esc_prompts::FinalTermSemanticPrompt;
 use esc_values::{Items, Text};
 use std::alloc::{Allocator, Global};
 
-/// An operating system command: a control string between `ESC ]` and a string terminator, whose
+/// An operating system command is a control string between `ESC ]` and a string terminator, whose
 /// parts have `;` between them (xterm's list of control sequences, "Operating System Commands").
 #[derive(Drop)]
 #[derive_where(Debug, PartialEq)]
@@ -30,7 +31,7 @@ pub enum OperatingSystemCommand<A: Allocator = Global> {
     SetIconName(Text<A>),
     /// Code `L`: sets the name of the icon, as Sun's terminals do it.
     SetIconNameSun(Text<A>),
-    /// Code 8: what is printed next belongs to this link, or to none.
+    /// Code 8: says that the text printed next belongs to this link, or to none.
     SetHyperlink(Option<Hyperlink<A>>),
     /// Code 52 with a selection alone: clears it.
     ClearSelection(Selection),
@@ -42,7 +43,7 @@ pub enum OperatingSystemCommand<A: Allocator = Global> {
     SystemNotification(Text<A>),
     /// Code 1337: a command of iTerm2.
     ITermProprietary(ITermProprietary<A>),
-    /// Code 133: where a shell's prompts, commands and their output begin and end.
+    /// Code 133: marks a beginning or an end of a shell's prompts, commands and their output.
     FinalTermSemanticPrompt(FinalTermSemanticPrompt<A>),
     /// Code 4: changes colours of the palette, or asks for them.
     ChangeColorNumber(Items<ChangeColorPair, A>),
@@ -51,20 +52,20 @@ pub enum OperatingSystemCommand<A: Allocator = Global> {
     ChangeDynamicColors(DynamicColorNumber, Items<ColorOrQuery, A>),
     /// Codes 110 to 119: resets a dynamic colour.
     ResetDynamicColor(DynamicColorNumber),
-    /// Code 7: the directory that the shell works in.
+    /// Code 7: names the directory that the shell works in.
     CurrentWorkingDirectory(Text<A>),
-    /// Code 104: resets these colours of the palette; all of them where none is named.
+    /// Code 104: resets these colours of the palette; all of them if none is named.
     ResetColors(Items<u8, A>),
-    /// Code 777: an extension of rxvt, as its parts.
+    /// Code 777: is an extension of rxvt, as its parts.
     RxvtExtension(Items<Text<A>, A>),
     /// Code 9 with `4`: shows the progress of a task, as ConEmu does it.
     ConEmuProgress(Progress),
-    /// Any other command, as its parts.
+    /// Is any other command, as its parts.
     Unspecified(Items<Items<u8, A>, A>),
 }
 
 impl<A: Allocator> OperatingSystemCommand<A> {
-    /// The code that its text is written under; none where it is `Unspecified`, whose parts may
+    /// Returns the code that its text is written under; none for `Unspecified`, whose parts may
     /// have any.
     pub fn code(&self) -> Option<OperatingSystemCommandCode>
         ensures under { IfSome result (λ c. IsUnder c (inner_text self.now)) }
@@ -74,7 +75,7 @@ impl<A: Allocator> OperatingSystemCommand<A> {
     }
 }
 
-// The code under which a command is written.
+// Returns the code under which a command is written.
 fn code_under<A: Allocator>(
     command: &OperatingSystemCommand<A>,
 ) -> Option<OperatingSystemCommandCode>

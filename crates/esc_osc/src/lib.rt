@@ -1,5 +1,5 @@
-//! Operating system commands: their values, how the parts between `ESC ]` and the string terminator
-//! are read as an [`OperatingSystemCommand`], and how a value is written.
+//! This crate has operating system commands: their values, a reader of the parts between `ESC ]`
+//! and the string terminator as an [`OperatingSystemCommand`], and a writer.
 //!
 //! The standards: xterm's list of control sequences, "Operating System Commands"
 //! (<https://invisible-island.net/xterm/ctlseqs/ctlseqs.html>); for the codes 8, 133 and 1337 those

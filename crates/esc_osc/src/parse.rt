@@ -1,4 +1,4 @@
-//! How parts are read.
+//! This module reads parts.
 ghost use Rattle.std.specs.Prelude.{◌≡◌, IfOk, OnErr, Some, [], ◌∷◌, map, codes};
 ghost use Rattle.std.specs.Option.{option_map};
 ghost use Rattle.std.specs.Str.Lossy.{utf8_lossy};
@@ -33,8 +33,8 @@ use std::alloc::{AllocError, Allocator};
 use std::str;
 
 impl<A: Allocator + Copy> Command<A> {
-    /// The command that these parts mean: the one that the code in the first part names, where the
-    /// other parts fit it, else `Unspecified` of the same parts. The error is that memory was
+    /// Returns the command that these parts mean: the one that the code in the first part names, if
+    /// the other parts fit it, else `Unspecified` of the same parts. The error is that memory was
     /// refused.
     pub fn parse(alloc: A, parts: &[&[u8]]) -> Result<Command<A>, AllocError>
         ensures ok { IfOk result (λ c. c ≡ meaning (map (λ p. p.now) parts.now)) }
@@ -47,7 +47,7 @@ impl<A: Allocator + Copy> Command<A> {
     }
 }
 
-// The case that fits, where one does.
+// Returns the case that fits, if one does.
 fn read_fitting<A: Allocator + Copy>(
     alloc: A,
     parts: &[&[u8]],
@@ -61,8 +61,8 @@ fn read_fitting<A: Allocator + Copy>(
     read_lossy(alloc, first, args)
 }
 
-// What the code that the first part names makes of the parts after it. A part that is UTF-8 is its
-// own lossy text.
+// Reads the parts after the first by the code that the first names. A part that is UTF-8 is its own
+// lossy text.
 fn read_lossy<A: Allocator + Copy>(
     alloc: A,
     first: &[u8],
@@ -81,7 +81,7 @@ fn read_lossy<A: Allocator + Copy>(
     }
 }
 
-// What the code of this text makes of the parts after it.
+// Reads the parts after the first by the code of this text.
 fn read_named<A: Allocator + Copy>(
     alloc: A,
     first: &str,
@@ -96,7 +96,7 @@ fn read_named<A: Allocator + Copy>(
     }
 }
 
-// What the code makes of the lossy text of the first part and the parts after it.
+// Reads the lossy text of the first part and the parts after it, by the code.
 fn read_by_code<A: Allocator + Copy>(
     alloc: A,
     code: Code,
@@ -166,7 +166,7 @@ fn read_by_code<A: Allocator + Copy>(
     }
 }
 
-// A mark of prompts and commands.
+// Reads a mark of prompts and commands.
 fn read_prompt<A: Allocator + Copy>(
     alloc: A,
     args: &[&[u8]],
@@ -183,7 +183,7 @@ fn read_prompt<A: Allocator + Copy>(
     }
 }
 
-// A command of iTerm2.
+// Reads a command of iTerm2.
 fn read_proprietary<A: Allocator + Copy>(
     alloc: A,
     args: &[&[u8]],
@@ -199,7 +199,7 @@ fn read_proprietary<A: Allocator + Copy>(
     }
 }
 
-// A notification.
+// Reads a notification.
 fn read_notification<A: Allocator + Copy>(
     alloc: A,
     args: &[&[u8]],
@@ -211,7 +211,7 @@ fn read_notification<A: Allocator + Copy>(
     Ok(TextForm::SystemNotification.with(read_lone_text(alloc, args)?))
 }
 
-// The link after the code, where there is one.
+// Reads the link after the code, if there is one.
 fn read_link<A: Allocator + Copy>(
     alloc: A,
     args: &[&[u8]],
@@ -231,7 +231,7 @@ fn read_link<A: Allocator + Copy>(
     }
 }
 
-// The progress of a task, else a notification.
+// Reads the progress of a task, else a notification.
 fn read_notified<A: Allocator + Copy>(
     alloc: A,
     args: &[&[u8]],
@@ -247,7 +247,7 @@ fn read_notified<A: Allocator + Copy>(
     }
 }
 
-// Changes of this dynamic colour and those after it.
+// Reads changes of this dynamic colour and those after it.
 fn read_changed<A: Allocator + Copy>(
     alloc: A,
     number: DynamicColorNumber,
@@ -264,7 +264,7 @@ fn read_changed<A: Allocator + Copy>(
     }
 }
 
-// A dynamic colour that is changed, else one that is reset.
+// Reads a dynamic colour that is changed, else one that is reset.
 fn read_dynamic<A: Allocator + Copy>(
     alloc: A,
     changed: Option<DynamicColorNumber>,
@@ -283,7 +283,7 @@ fn read_dynamic<A: Allocator + Copy>(
     }
 }
 
-// A selection alone, with `?`, or with a text.
+// Reads a selection alone, with `?`, or with a text.
 fn read_selected<A: Allocator + Copy>(
     alloc: A,
     args: &[&[u8]],
@@ -299,7 +299,7 @@ fn read_selected<A: Allocator + Copy>(
     }
 }
 
-// A selection that is cleared.
+// Reads a selection that is cleared.
 fn read_cleared<A: Allocator>(letters: &[u8]) -> Option<Command<A>>
     ensures { result ≡ selection_command (letters.now ∷ []) }
 {
@@ -309,7 +309,7 @@ fn read_cleared<A: Allocator>(letters: &[u8]) -> Option<Command<A>>
     Some(Command::ClearSelection(selection))
 }
 
-// A selection, with `?` or with a text.
+// Reads a selection, with `?` or with a text.
 fn read_content<A: Allocator + Copy>(
     alloc: A,
     letters: &[u8],

@@ -1,4 +1,4 @@
-//! The commands that are a code and one text.
+//! This module defines the commands that are a code and one text.
 ghost use Rattle.std.specs.Prelude.{◌≡◌};
 ghost use Rattle.std.specs.Option.{option_map};
 ghost use Rattle.esc_osc.specs.TextForms.{with_text};
@@ -7,7 +7,7 @@ use crate::command::OperatingSystemCommand;
 use esc_values::Text;
 use std::alloc::Allocator;
 
-// A command that is a code and one text.
+// This is a command that is a code and one text.
 #[derive(Clone, Copy)]
 pub(crate) enum TextForm {
     IconNameAndWindowTitle,
@@ -20,7 +20,7 @@ pub(crate) enum TextForm {
 }
 
 impl TextForm {
-    // The command with this text, where there is one.
+    // Returns the command with this text, if there is one.
     pub(crate) fn with<A: Allocator>(
         self,
         text: Option<Text<A>>,
@@ -33,7 +33,7 @@ impl TextForm {
         }
     }
 
-    // The command with this text.
+    // Returns the command with this text.
     fn with_text<A: Allocator>(self, text: Text<A>) -> OperatingSystemCommand<A>
         ensures { result ≡ with_text self text }
     {

@@ -1,4 +1,4 @@
-//! The texts of commands.
+//! This module writes commands.
 ghost use Rattle.std.specs.Prelude.{Some};
 ghost use Rattle.std.specs.Fmt.{DisplaysOnOk};
 ghost use Rattle.esc_osc.specs.Commands.{command_text, inner_text};
@@ -12,9 +12,8 @@ use std::alloc::Allocator;
 use std::fmt;
 use std::fmt::Display;
 
-/// Writes `ESC ]`, the parts of the command with `;` between them, and the string terminator
-/// `ESC \`. Bytes that are no UTF-8 are written as U+FFFD. Where it returns `Ok`, all of it was
-/// written.
+/// Writes `ESC ]`, the parts of the command with `;` between them, and the string terminator `ESC
+/// \`. Bytes that are no UTF-8 are written as U+FFFD. If it returns `Ok`, all of it was written.
 impl<A: Allocator> fmt::Display for OperatingSystemCommand<A> {
     ghost output = { λ c. Some (command_text c) };
 
@@ -25,7 +24,7 @@ impl<A: Allocator> fmt::Display for OperatingSystemCommand<A> {
     }
 }
 
-// What comes between `ESC ]` and the terminator.
+// Writes the text between `ESC ]` and the string terminator.
 fn write_inner<W: fmt::Write, A: Allocator>(
     command: &OperatingSystemCommand<A>,
     f: &mut fmt::Formatter<W>,

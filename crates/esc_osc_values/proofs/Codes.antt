@@ -46,7 +46,7 @@ pub code_of_none : (t : List ℕ) → code_of t ≡ None → (c : OperatingSyste
     → t ≢ code_text c
 code_of_none t h c e = let found : code_of t ≡ Some c = ap code_of e ∙ code_of-code_text c in cc
 
--- what names a code is its text
+-- the text of a code names it
 first_named_text : (cs : List OperatingSystemCommandCode) (t : List ℕ)
     (c : OperatingSystemCommandCode) → first_named cs t ≡ Some c → t ≡ code_text c
 first_named_text [] t c h = cc

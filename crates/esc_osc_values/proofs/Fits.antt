@@ -1,4 +1,4 @@
--- What is read of parts lies in the ranges of its types.
+-- Values that are read from parts lie in the ranges of their types.
 use Rattle.std.proofs.Common.{ℕ, ◌≡◌, ◌<◌, ◌≤◌, ◌+◌, ◌*◌, ◌/◌, ◌==◌, ◌&&◌, nat_lt, nat_le, nat_eq, inl, inr, List, [], ◌∷◌, length, take, drop, codes}
 use Rattle.std.proofs.Common.{Some, None, arith}
 use Rattle.std.specs.Char.{digit_value}

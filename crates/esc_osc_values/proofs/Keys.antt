@@ -17,8 +17,8 @@ packed_grows : (p : ℕ) (bs : List ℕ) → p ≤ packed p bs
 packed_grows p [] = omega arith
 packed_grows p (b ∷ bs) = let more = packed_grows (256 * p + b) bs in omega arith
 
--- two numbers of which neither has a byte more than the other are packed to one with equal bytes
--- only
+-- if neither of two numbers has a byte more than the other, they are packed to one number only with
+-- equal bytes
 packed_same : (p q : ℕ) (x y : List ℕ) → AreBytes x → AreBytes y → p < 256 * q → q < 256 * p
     → packed p x ≡ packed q y → (p ≡ q) × (x ≡ y)
 packed_same p q [] [] bx by pq qp e = (e, refl)

@@ -1,4 +1,4 @@
--- Selections are clear parts that read back, and what is read has named bits.
+-- Selections are clear parts that read back, and a selection that was read has named bits.
 use Rattle.std.proofs.Common.{◌≡◌, ◌≢◌, ℕ, ◌+◌, ◌*◌, ◌/◌, ◌%◌, ◌≤◌, ◌==◌, nat_eq, nat_lt, ◌&&◌, not, cond, Bool, true, false, inl, inr, List, [], ◌∷◌}
 use Rattle.std.proofs.Common.{codes, ◌<◌, length, drop, get_or, bit_and, bit_or, Some, None, refl, sym, ap, ◌∙◌, arith}
 use Rattle.std.specs.Cmp.Lexicographic.{pointwise, same_text}

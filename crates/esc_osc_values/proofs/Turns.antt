@@ -17,7 +17,7 @@ use Rattle.esc_osc_values.specs.declared.color_or_query.ColorOrQuery.{ColorOrQue
 abbrev pub no_part : Bor (List ℕ)
 no_part = record { ref_ptr = (0, 0); now = [] }
 
--- what was made, with what is left
+-- the items made so far, with the rest
 abbrev pub made_with : {Y : Type 0} → List Y → Option (List Y) → Option (List Y)
 made_with made rest = option_map (λ more. made ++ more) rest
 

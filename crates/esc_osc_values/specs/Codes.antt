@@ -42,9 +42,9 @@ first_named (c ∷ cs) t = if pointwise nat_eq t (code_text c) then Some c else 
 unfoldable pub code_of : List ℕ → Option OperatingSystemCommandCode
 code_of t = first_named all_codes t
 
--- the text that names the code, of the first part's lossy text t and the parts after it: t, or its
--- first character where t is alone and begins with no ASCII digit. A code that is no number is one
--- ASCII character, so the first byte names what the first character does.
+-- the text that names the code, by the first part's lossy text t and the parts after it: t, or
+-- its first character if t is alone and begins with no ASCII digit. A code that is no number is one
+-- ASCII character, so the first byte names the same code as the first character.
 abbrev pub code_name : List ℕ → List (List ℕ) → List ℕ
 code_name t [] =
     if nat_le 0x30 (slice_index t 0) && nat_le (slice_index t 0) 0x39 then t else take 1 t

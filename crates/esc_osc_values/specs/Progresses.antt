@@ -30,7 +30,7 @@ abbrev pub progress_of : List (List ℕ) → Option Progress
 progress_of (a ∷ s ∷ more) = if pointwise nat_eq a (codes "4") then state_of s more else None
 progress_of args = None
 
--- what is written of it, after the code
+-- the text of the progress, after the code
 abbrev pub progress_text : Progress → List ℕ
 progress_text progress.None = codes "4;0"
 progress_text (progress.SetPercentage n) = codes "4;1;" ++ decimal n

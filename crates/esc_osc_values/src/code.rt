@@ -1,10 +1,10 @@
-//! The codes of operating system commands.
+//! This module defines the codes of operating system commands.
 ghost use Rattle.std.specs.Prelude.{◌≡◌, ◌≢◌, ◌<◌, [], get_or, length, map, MatchOption};
 ghost use Rattle.esc_osc_values.specs.Codes.{code_text, place, text_key};
 ghost use Rattle.esc_osc_values.specs.declared.code.OperatingSystemCommandCode.{OperatingSystemCommandCode};
 
-/// What an operating system command asks for, which its first part says (xterm's list of control
-/// sequences, "Operating System Commands",
+/// The code, an operating system command's first part, says what the command asks for (xterm's list
+/// of control sequences, "Operating System Commands",
 /// <https://invisible-island.net/xterm/ctlseqs/ctlseqs.html>).
 #[derive(Clone, Copy, Debug, PartialEq, Eq, Hash)]
 pub enum OperatingSystemCommandCode {
@@ -92,9 +92,8 @@ pub enum OperatingSystemCommandCode {
     SetIconNameSun,
 }
 
-// A row a line: the code, its text, and the key of the text. The rows are in the order of
-// `OperatingSystemCommandCode`: a key is compared with theirs in turn, so those that come most are
-// first.
+// Each row has a code, its text, and the key of the text. The rows are in the order of
+// `OperatingSystemCommandCode`: a key is compared with theirs in turn, so the commonest are first.
 macro_rules! codes {
     ($each:ident) => {
         $each![
@@ -167,7 +166,7 @@ static TEXTS: [&str; 41] = codes!(texts);
 
 static KEYS: [u64; 41] = codes!(keys);
 
-// The text in this place of a table.
+// Returns the text in this place of a table.
 fn text_in(texts: &[&'static str], index: usize) -> &'static str
     requires { index < length texts.now }
     ensures { result.now ≡ get_or (map (λ t. t.now) texts.now) index [] }
@@ -175,7 +174,7 @@ fn text_in(texts: &[&'static str], index: usize) -> &'static str
     texts[index]
 }
 
-// The place of its row.
+// Returns the place of its row.
 #[inline(always)]
 fn place(code: OperatingSystemCommandCode) -> usize
     ensures place { result ≡ place code }
@@ -184,8 +183,8 @@ fn place(code: OperatingSystemCommandCode) -> usize
     code as usize
 }
 
-// The key of a text of one to four bytes: a one and its bytes, as a number in base 256. Zero for
-// every other text.
+// Returns the key of a text of one to four bytes: a one and its bytes, as a number in base 256;
+// zero for every other text.
 #[inline]
 fn text_key(text: &[u8]) -> u64
     ensures { result ≡ text_key text.now }
@@ -203,7 +202,7 @@ fn text_key(text: &[u8]) -> u64
     }
 }
 
-// The key of the text of a code.
+// Returns the key of the text of a code.
 #[inline(always)]
 fn key(code: OperatingSystemCommandCode) -> u64
     ensures { result ≡ text_key (code_text code) }
@@ -212,8 +211,8 @@ fn key(code: OperatingSystemCommandCode) -> u64
 }
 
 impl OperatingSystemCommandCode {
-    /// The code whose text this is; none where it is the text of no code. Every byte counts, so
-    /// `02` is no code.
+    /// Returns the code whose text this is; none if it is the text of no code. Every byte counts,
+    /// so `02` is no code.
     pub fn from_code(code: &str) -> Option<OperatingSystemCommandCode>
         ensures { MatchOption result ((c : OperatingSystemCommandCode) → code.now ≢ code_text c)
             (λ c. code.now ≡ code_text c) }
@@ -227,7 +226,7 @@ impl OperatingSystemCommandCode {
         None
     }
 
-    /// The text of this code.
+    /// Returns the text of this code.
     pub fn as_code(self) -> &'static str
         ensures { result.now ≡ code_text self }
     {

@@ -1,6 +1,6 @@
-//! Colours of three channels.
+//! This module defines colours of three channels.
 
-/// A colour: how much red, green and blue, each from 0 to 65535 (X11's `XParseColor`, "RGB
+/// A colour has channels of red, green and blue, each from 0 to 65535 (X11's `XParseColor`, "RGB
 /// Device").
 #[derive(Clone, Copy, Debug, PartialEq, Eq)]
 pub struct Color16 {

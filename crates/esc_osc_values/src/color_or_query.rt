@@ -1,21 +1,21 @@
-//! Colours, and the question for one.
+//! This module defines colours, and the question for one.
 ghost use Rattle.std.specs.Prelude.{Some};
 ghost use Rattle.esc_osc_values.specs.Colors.{hex4, spec_text};
 
 use crate::color16::Color16;
 use std::fmt;
 
-/// A colour, or the question which it is.
+/// This is a colour, or the question for one.
 #[derive(Clone, Debug, Drop, PartialEq)]
 pub enum ColorOrQuery {
-    /// This colour.
+    /// Names this colour.
     Color(Color16),
     /// Asks for the colour.
     Query,
 }
 
 /// Writes `rgb:` and the three channels with `/` between them, each of four lower-case hexadecimal
-/// digits, or `?`. Where it returns `Ok`, all of it was written.
+/// digits, or `?`. If it returns `Ok`, all of it was written.
 impl fmt::Display for ColorOrQuery {
     ghost output = { λ c. Some (spec_text c) };
 
@@ -32,7 +32,7 @@ impl fmt::Display for ColorOrQuery {
     }
 }
 
-// One channel, that prints as four digits.
+// This is one channel, which prints as four digits.
 #[derive(Clone, Copy)]
 struct Channel(u16);
 

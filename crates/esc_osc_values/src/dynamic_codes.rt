@@ -1,4 +1,4 @@
-//! Which codes change and reset a dynamic colour.
+//! Codes change and reset a dynamic colour.
 ghost use Rattle.std.specs.Prelude.{◌≡◌};
 ghost use Rattle.esc_osc_values.specs.Codes.{change_code, changed_by, reset_by, reset_code};
 
@@ -6,7 +6,7 @@ use crate::code::OperatingSystemCommandCode;
 use crate::dynamic_color_number::DynamicColorNumber;
 use esc_values::scalar::read_u8;
 
-/// The code that changes this colour.
+/// Returns the code that changes this colour.
 pub fn change_code(color: DynamicColorNumber) -> OperatingSystemCommandCode
     ensures { result ≡ change_code color }
 {
@@ -33,7 +33,7 @@ pub fn change_code(color: DynamicColorNumber) -> OperatingSystemCommandCode
     }
 }
 
-/// The code that resets this colour.
+/// Returns the code that resets this colour.
 pub fn reset_code(color: DynamicColorNumber) -> OperatingSystemCommandCode
     ensures { result ≡ reset_code color }
 {
@@ -60,7 +60,7 @@ pub fn reset_code(color: DynamicColorNumber) -> OperatingSystemCommandCode
     }
 }
 
-/// The colour that a code changes.
+/// Returns the colour that a code changes; none if it changes none.
 pub fn changed_by(code: OperatingSystemCommandCode) -> Option<DynamicColorNumber>
     ensures { result ≡ changed_by code }
 {
@@ -68,7 +68,7 @@ pub fn changed_by(code: OperatingSystemCommandCode) -> Option<DynamicColorNumber
     DynamicColorNumber::from_number(number)
 }
 
-/// The colour that a code resets.
+/// Returns the colour that a code resets; none if it resets none.
 pub fn reset_by(code: OperatingSystemCommandCode) -> Option<DynamicColorNumber>
     ensures { result ≡ reset_by code }
 {

@@ -1,10 +1,10 @@
-//! The dynamic colours (<https://invisible-island.net/xterm/ctlseqs/ctlseqs.html>, codes 10 to 19
-//! and 110 to 119).
+//! This module defines the dynamic colours
+//! (<https://invisible-island.net/xterm/ctlseqs/ctlseqs.html>, codes 10 to 19 and 110 to 119).
 ghost use Rattle.std.specs.Prelude.{◌≡◌, ◌+◌};
 ghost use Rattle.esc_osc_values.specs.Codes.{color_number, color_of};
 
-/// A colour that a program may change, ask for and reset (xterm's list of control sequences, "VT100
-/// text colors" and on, `Ps` 10 to 19). Its number is that of the code which changes it.
+/// A program may change, ask for and reset a dynamic colour (xterm's list of control sequences,
+/// "VT100 text colors" and on, `Ps` 10 to 19). Its number is that of the code which changes it.
 #[derive(Clone, Copy, Debug, PartialEq, Eq)]
 pub enum DynamicColorNumber {
     /// The colour of the foreground of text.
@@ -30,14 +30,14 @@ pub enum DynamicColorNumber {
 }
 
 impl DynamicColorNumber {
-    /// Its number, from 10 to 19.
+    /// Returns its number, from 10 to 19.
     pub fn number(self) -> u8
         ensures { result ≡ color_number self }
     {
         self as u8
     }
 
-    /// The colour of this number; none where the number is not one of 10 to 19.
+    /// Returns the colour of this number; none if the number is not one of 10 to 19.
     pub fn from_number(number: u8) -> Option<DynamicColorNumber>
         ensures { result ≡ color_of number }
     {
@@ -56,8 +56,8 @@ impl DynamicColorNumber {
         }
     }
 
-    /// The colour of the next number, which a command with several colours changes next; none after
-    /// the last, 19.
+    /// Returns the colour of the next number, which a command with several colours changes next;
+    /// none after the last, 19.
     pub fn next(self) -> Option<DynamicColorNumber>
         ensures { result ≡ color_of (color_number self + 1) }
     {

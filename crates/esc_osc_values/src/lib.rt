@@ -1,7 +1,7 @@
-//! What operating system commands name and carry: their codes, colours of the palette and dynamic
-//! colours, selections, the progress of a task, and lists of texts, numbers and parts; how each is
-//! read, and how it is written. A user of this library takes these names from `esc_osc`, which has
-//! the commands themselves.
+//! This crate has the values in operating system commands: their codes, colours of the palette and
+//! dynamic colours, selections, the progress of a task, and lists of texts, numbers and parts, with
+//! a reader and a writer of each. A user of this library takes these names from `esc_osc`, which
+//! has the commands themselves.
 //!
 //! The standards: xterm's list of control sequences, "Operating System Commands"
 //! (<https://invisible-island.net/xterm/ctlseqs/ctlseqs.html>); for colours X11's `XParseColor`;

@@ -1,10 +1,10 @@
-//! Bytes shown as text.
+//! This module shows bytes as text.
 ghost use Rattle.std.specs.Prelude.{Some};
 ghost use Rattle.std.specs.Str.Lossy.{utf8_lossy};
 
 use std::fmt;
 
-/// Bytes that print as their lossy text: each well-formed sequence of UTF-8 is its character, and
+/// The bytes print as their lossy text: each well-formed sequence of UTF-8 is its character, and
 /// each longest proper prefix of one that is not continued, and each other byte, is U+FFFD
 /// (Unicode, Table 3-7 and "U+FFFD Substitution of Maximal Subparts").
 #[derive(Clone, Copy)]

@@ -1,10 +1,10 @@
-//! How the code of a command is read.
+//! This module reads the code of a command.
 ghost use Rattle.std.specs.Prelude.{◌≡◌, [], map};
 ghost use Rattle.esc_osc_values.specs.Codes.{code_name, code_of};
 
 use crate::code::OperatingSystemCommandCode;
 
-/// The code that the lossy text of the first part names, by whether it is alone.
+/// Returns the code that the lossy text of the first part names, alone or before `args`.
 pub fn code_in(first: &str, args: &[&[u8]]) -> Option<OperatingSystemCommandCode>
     ensures { result ≡ code_of (code_name first.now (map (λ p. p.now) args.now)) }
 {
@@ -14,7 +14,7 @@ pub fn code_in(first: &str, args: &[&[u8]]) -> Option<OperatingSystemCommandCode
     code_alone(first)
 }
 
-// The code that the lossy text of an only part names.
+// Returns the code that the lossy text of an only part names.
 fn code_alone(first: &str) -> Option<OperatingSystemCommandCode>
     ensures { result ≡ code_of (code_name first.now []) }
 {

@@ -1,4 +1,4 @@
-//! How colours are read.
+//! This module reads colours.
 ghost use Rattle.std.specs.Prelude.{◌≡◌, ◌<◌, ◌≤◌, ◌^◌, IfSome, length};
 ghost use Rattle.esc_osc_values.specs.Colors.{hex_after, hex_of, channel_of, rgb_of, sharp_of, color_from, spec_of};
 
@@ -6,7 +6,7 @@ use crate::color_or_query::ColorOrQuery;
 use crate::color16::Color16;
 use esc_values::cut::cut;
 
-// A colour, or the question for one.
+// Reads a colour, or the question for one.
 pub(crate) fn read_spec(bytes: &[u8]) -> Option<ColorOrQuery>
     ensures { result ≡ spec_of bytes.now }
 {
@@ -22,7 +22,7 @@ pub(crate) fn read_spec(bytes: &[u8]) -> Option<ColorOrQuery>
     None
 }
 
-// Channels with `/` between them.
+// Reads channels with `/` between them.
 fn read_rgb(bytes: &[u8]) -> Option<ColorOrQuery>
     ensures { result ≡ rgb_of bytes.now }
 {
@@ -31,7 +31,7 @@ fn read_rgb(bytes: &[u8]) -> Option<ColorOrQuery>
     read_channels(red, green, blue)
 }
 
-// Six digits, two a channel.
+// Reads six digits, two a channel.
 fn read_sharp(bytes: &[u8]) -> Option<ColorOrQuery>
     ensures { result ≡ sharp_of bytes.now }
 {
@@ -41,7 +41,7 @@ fn read_sharp(bytes: &[u8]) -> Option<ColorOrQuery>
     read_channels(&bytes[..2], &bytes[2..4], &bytes[4..])
 }
 
-// The colour of three channels.
+// Returns the colour of three channels.
 fn read_channels(red: &[u8], green: &[u8], blue: &[u8]) -> Option<ColorOrQuery>
     ensures { result ≡ color_from red.now green.now blue.now }
 {
@@ -51,7 +51,7 @@ fn read_channels(red: &[u8], green: &[u8], blue: &[u8]) -> Option<ColorOrQuery>
     Some(ColorOrQuery::Color(Color16 { red, green, blue }))
 }
 
-// One to four hexadecimal digits, scaled to 16 bits.
+// Reads one to four hexadecimal digits, scaled to 16 bits.
 fn read_channel(digits: &[u8]) -> Option<u16>
     ensures { result ≡ channel_of digits.now }
 {
@@ -66,7 +66,7 @@ fn read_channel(digits: &[u8]) -> Option<u16>
     Some((65535 * value / most) as u16)
 }
 
-// The number of up to four hexadecimal digits.
+// Returns the number of up to four hexadecimal digits.
 fn read_hex(digits: &[u8]) -> Option<u32>
     requires { length digits.now ≤ 4 }
     ensures value { result ≡ hex_after 0 digits.now }
@@ -82,7 +82,7 @@ fn read_hex(digits: &[u8]) -> Option<u32>
     Some(value)
 }
 
-// The value of a hexadecimal digit, in either case.
+// Returns the value of a hexadecimal digit, in either case.
 fn hex_digit(digit: u8) -> Option<u32>
     ensures { result ≡ hex_of digit }
 {

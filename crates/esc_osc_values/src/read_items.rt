@@ -1,4 +1,4 @@
-//! How lists of parts are read. An error is that memory was refused.
+//! This module reads lists of parts. An error is that memory was refused.
 ghost use Rattle.std.specs.Prelude.{◌≡◌, ◌∷◌, IfOk, OnErr, drop, map};
 ghost use Rattle.std.specs.Str.Lossy.{utf8_lossy};
 ghost use Rattle.esc_values.specs.Clear.{joined};
@@ -14,7 +14,7 @@ use esc_values::scalar::{read_u8, text_of};
 use esc_values::{Items, Text};
 use std::alloc::{AllocError, Allocator};
 
-/// The same parts.
+/// Returns a copy of the parts.
 pub fn copied<A: Allocator + Copy>(
     alloc: A,
     parts: &[&[u8]],
@@ -29,7 +29,7 @@ pub fn copied<A: Allocator + Copy>(
     Ok(Items::from_vec(made))
 }
 
-/// The parts joined by `;`, where they are a text.
+/// Returns the parts joined by `;`, if there is one and they are a text.
 pub fn read_title<A: Allocator + Copy>(
     alloc: A,
     args: &[&[u8]],
@@ -43,7 +43,7 @@ pub fn read_title<A: Allocator + Copy>(
     Ok(text_of(joined(alloc, first, rest)?))
 }
 
-// A part and those after it, with `;` between them.
+// Returns a part and those after it, with `;` between them.
 fn joined<A: Allocator>(alloc: A, first: &[u8], rest: &[&[u8]]) -> Result<Vec<u8, A>, AllocError>
     ensures ok { IfOk result (λ b. b.items ≡ joined (first.now ∷ map (λ p. p.now) rest.now)) }
     ensures refused { OnErr result (Refused A) }
@@ -56,7 +56,7 @@ fn joined<A: Allocator>(alloc: A, first: &[u8], rest: &[&[u8]]) -> Result<Vec<u8
     Ok(bytes)
 }
 
-/// The text of one part alone.
+/// Returns the text of one part alone; none if there are more parts or fewer.
 pub fn read_lone_text<A: Allocator + Copy>(
     alloc: A,
     args: &[&[u8]],
@@ -70,7 +70,7 @@ pub fn read_lone_text<A: Allocator + Copy>(
     }
 }
 
-/// These bytes as a text.
+/// Returns these bytes as a text; none if they are no UTF-8.
 pub fn read_text<A: Allocator>(alloc: A, bytes: &[u8]) -> Result<Option<Text<A>>, AllocError>
     ensures ok { IfOk result (λ t. t ≡ utf8_of bytes.now) }
     ensures refused { OnErr result (Refused A) }
@@ -78,7 +78,7 @@ pub fn read_text<A: Allocator>(alloc: A, bytes: &[u8]) -> Result<Option<Text<A>>
     Ok(text_of(fallible_alloc::copied(alloc, bytes)?))
 }
 
-/// Pairs of a number and a colour; a last lone part is dropped.
+/// Reads pairs of a number and a colour; a last lone part is dropped.
 pub fn read_pairs<A: Allocator>(
     alloc: A,
     args: &[&[u8]],
@@ -107,7 +107,7 @@ pub fn read_pairs<A: Allocator>(
     Ok(Some(Items::from_vec(made)))
 }
 
-/// Colours.
+/// Reads colours; none if a part is no colour.
 pub fn read_colors<A: Allocator>(
     alloc: A,
     args: &[&[u8]],
@@ -125,7 +125,7 @@ pub fn read_colors<A: Allocator>(
     Ok(Some(Items::from_vec(made)))
 }
 
-/// Numbers; an empty part is skipped.
+/// Reads numbers of 8 bits; an empty part is skipped. None if a part is no number.
 pub fn read_numbers<A: Allocator>(
     alloc: A,
     args: &[&[u8]],
@@ -146,7 +146,7 @@ pub fn read_numbers<A: Allocator>(
     Ok(Some(Items::from_vec(made)))
 }
 
-/// The lossy texts of the parts.
+/// Returns the lossy texts of the parts.
 pub fn read_texts<A: Allocator + Copy>(
     alloc: A,
     args: &[&[u8]],
@@ -164,7 +164,7 @@ pub fn read_texts<A: Allocator + Copy>(
     Ok(Items::from_vec(made))
 }
 
-/// A text without its first byte, where that is a text.
+/// Returns a text without its first byte, if that is a text.
 pub fn without_first<A: Allocator>(alloc: A, text: &str) -> Result<Option<Text<A>>, AllocError>
     ensures ok { IfOk result (λ t. t ≡ utf8_of (drop 1 text.now)) }
     ensures refused { OnErr result (Refused A) }

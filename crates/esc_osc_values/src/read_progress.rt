@@ -1,11 +1,11 @@
-//! How the progress of a task is read.
+//! This module reads the progress of a task.
 ghost use Rattle.std.specs.Prelude.{◌≡◌, map};
 ghost use Rattle.esc_osc_values.specs.Progresses.{percent_of, progress_of, state_of};
 
 use crate::progress::Progress;
 use esc_values::scalar::read_u8;
 
-/// The progress that the parts after the code give, where they begin with `4` and a state.
+/// Returns the progress of the parts after the code, if they begin with `4` and a state.
 pub fn read_progress(args: &[&[u8]]) -> Option<Progress>
     ensures { result ≡ progress_of (map (λ p. p.now) args.now) }
 {
@@ -22,7 +22,7 @@ pub fn read_progress(args: &[&[u8]]) -> Option<Progress>
     }
 }
 
-// The progress of a state and the parts after it.
+// Returns the progress of a state and the parts after it.
 fn read_state(state: &[u8], more: &[&[u8]]) -> Option<Progress>
     ensures { result ≡ state_of state.now (map (λ p. p.now) more.now) }
 {
@@ -41,7 +41,7 @@ fn read_state(state: &[u8], more: &[&[u8]]) -> Option<Progress>
     }
 }
 
-// The first part as a percentage: 0 where there is none, 100 where it is more.
+// Returns the first part as a percentage: 0 if there is none, 100 if it is more.
 fn read_percent(parts: &[&[u8]]) -> u8
     ensures { result ≡ percent_of (map (λ p. p.now) parts.now) }
 {

@@ -1,4 +1,5 @@
-//! Selections (<https://invisible-island.net/xterm/ctlseqs/ctlseqs.html>, code 52).
+//! This module defines selections (<https://invisible-island.net/xterm/ctlseqs/ctlseqs.html>, code
+//! 52).
 ghost use Rattle.std.specs.Prelude.{⊤, ◌≡◌, ◌==◌, not, if◌then◌else◌, [], ◌∷◌, codes, Some, None, bit_and, bit_or, bit_xor};
 ghost use Rattle.esc_osc_values.specs.Selections.{lacking, letter_bit, named_bits};
 
@@ -8,16 +9,16 @@ use std::ops::{
     BitAnd, BitAndAssign, BitOr, BitOrAssign, BitXor, BitXorAssign, Not, Sub, SubAssign,
 };
 
-// Flags of these names.
+// Makes a table of the flags of these names.
 macro_rules! flags {
     ($($name:ident),+) => {
         &[$(Flag { name: stringify!($name), value: Selection::$name }),+]
     };
 }
 
-/// Which selections, as a set of bits (xterm's list of control sequences, "Manipulate Selection
-/// Data"): the clipboard, the primary selection, the one that is configured, and the cut buffers 0
-/// to 9. These are the named bits; a value may hold others too.
+/// A selection is a set of bits (xterm's list of control sequences, "Manipulate Selection Data"):
+/// the clipboard, the primary selection, the one that is configured, and the cut buffers 0 to 9.
+/// These are the named bits; a value may hold others too.
 #[derive(Clone, Copy, PartialEq, Eq, Debug)]
 pub struct Selection(u16);
 
@@ -64,7 +65,7 @@ impl Selection {
     /// Cut buffer 9.
     pub const CUT9: Selection = Selection(8192);
 
-    // The named bits, each with its name.
+    // has the named bits, each with its name
     const FLAGS: &'static [Flag<Selection>] = flags![
         NONE, CLIPBOARD, PRIMARY, SELECT, CUT0, CUT1, CUT2, CUT3, CUT4, CUT5, CUT6, CUT7, CUT8,
         CUT9
@@ -97,14 +98,14 @@ impl Flags for Selection {
 }
 
 impl Selection {
-    /// The bits of this set.
+    /// Returns the bits of this set.
     pub fn bits(&self) -> u16
         ensures { result ≡ self.now.0 }
     {
         self.0
     }
 
-    /// The set of these bits, where each is named; else none.
+    /// Returns the set of these bits, if each is named; else none.
     pub fn from_bits(bits: u16) -> Option<Selection>
         ensures { result ≡ (if bit_and bits named_bits == bits then Some (record { 0 = bits })
             else None) }
@@ -117,91 +118,91 @@ impl Selection {
         }
     }
 
-    /// The set of the named ones among these bits.
+    /// Returns the set of the named ones among these bits.
     pub fn from_bits_truncate(bits: u16) -> Selection
         ensures { result.0 ≡ bit_and bits named_bits }
     {
         Flags::from_bits_truncate(bits)
     }
 
-    /// The set of these bits, named or not.
+    /// Returns the set of these bits, named or not.
     pub fn from_bits_retain(bits: u16) -> Selection
         ensures { result.0 ≡ bits }
     {
         Selection(bits)
     }
 
-    /// The set of no bit.
+    /// Returns the set without bits.
     pub fn empty() -> Selection
         ensures { result.0 ≡ 0 }
     {
         Flags::empty()
     }
 
-    /// The set of all named bits, 16382.
+    /// Returns the set of all named bits, 16382.
     pub fn all() -> Selection
         ensures { result.0 ≡ named_bits }
     {
         Flags::all()
     }
 
-    /// Whether it has no bit.
+    /// Returns whether it has no bit.
     pub fn is_empty(&self) -> bool
         ensures { result ≡ (self.now.0 == 0) }
     {
         Flags::is_empty(self)
     }
 
-    /// Whether it has every named bit.
+    /// Returns whether it has every named bit.
     pub fn is_all(&self) -> bool
         ensures { result ≡ (bit_and self.now.0 named_bits == named_bits) }
     {
         self.contains(Selection::all())
     }
 
-    /// Whether it has every bit of `other`.
+    /// Returns whether it has every bit of `other`.
     pub fn contains(&self, other: Selection) -> bool
         ensures { result ≡ (bit_and self.now.0 other.0 == other.0) }
     {
         Flags::contains(self, other)
     }
 
-    /// Whether it shares a bit with `other`.
+    /// Returns whether it shares a bit with `other`.
     pub fn intersects(&self, other: Selection) -> bool
         ensures { result ≡ not (bit_and self.now.0 other.0 == 0) }
     {
         Flags::intersects(self, other)
     }
 
-    /// The bits of either.
+    /// Returns the bits of either.
     pub fn union(self, other: Selection) -> Selection
         ensures { result.0 ≡ bit_or self.0 other.0 }
     {
         Flags::union(self, other)
     }
 
-    /// The bits of both.
+    /// Returns the bits of both.
     pub fn intersection(self, other: Selection) -> Selection
         ensures { result.0 ≡ bit_and self.0 other.0 }
     {
         Flags::intersection(self, other)
     }
 
-    /// The bits of exactly one of them.
+    /// Returns the bits of exactly one of them.
     pub fn symmetric_difference(self, other: Selection) -> Selection
         ensures { result.0 ≡ bit_xor self.0 other.0 }
     {
         Flags::symmetric_difference(self, other)
     }
 
-    /// The bits of this set that `other` lacks.
+    /// Returns the bits of this set that `other` lacks.
     pub fn difference(self, other: Selection) -> Selection
         ensures { result.0 ≡ lacking self.0 other.0 }
     {
         Flags::difference(self, other)
     }
 
-    /// The named bits that this set lacks.
+    /// Returns the named bits that this set lacks.
     pub fn complement(self) -> Selection
         ensures { result.0 ≡ lacking named_bits self.0 }
     {
@@ -229,7 +230,7 @@ impl Selection {
         Flags::toggle(self, other);
     }
 
-    /// Adds the bits of `other` where `value` holds, else takes them away.
+    /// Adds the bits of `other` if `value` is true, else takes them away.
     pub fn set(&mut self, other: Selection, value: bool)
         ensures { self.new.0 ≡ (if value then bit_or self.old.0 other.0
             else lacking self.old.0 other.0) }
@@ -238,7 +239,7 @@ impl Selection {
     }
 }
 
-/// The bits of either.
+/// Returns the bits of either.
 impl BitOr for Selection {
     type Output = Selection;
 
@@ -249,7 +250,7 @@ impl BitOr for Selection {
     }
 }
 
-/// As the operator, in place.
+/// Acts as the operator, in place.
 impl BitOrAssign for Selection {
     ghost bitor_assign_gives = { λ a b r. r.0 ≡ bit_or a.0 b.0 };
 
@@ -258,7 +259,7 @@ impl BitOrAssign for Selection {
     }
 }
 
-/// The bits of both.
+/// Returns the bits of both.
 impl BitAnd for Selection {
     type Output = Selection;
 
@@ -269,7 +270,7 @@ impl BitAnd for Selection {
     }
 }
 
-/// As the operator, in place.
+/// Acts as the operator, in place.
 impl BitAndAssign for Selection {
     ghost bitand_assign_gives = { λ a b r. r.0 ≡ bit_and a.0 b.0 };
 
@@ -278,7 +279,7 @@ impl BitAndAssign for Selection {
     }
 }
 
-/// The bits of exactly one of them.
+/// Returns the bits of exactly one of them.
 impl BitXor for Selection {
     type Output = Selection;
 
@@ -289,7 +290,7 @@ impl BitXor for Selection {
     }
 }
 
-/// As the operator, in place.
+/// Acts as the operator, in place.
 impl BitXorAssign for Selection {
     ghost bitxor_assign_gives = { λ a b r. r.0 ≡ bit_xor a.0 b.0 };
 
@@ -298,7 +299,7 @@ impl BitXorAssign for Selection {
     }
 }
 
-/// The bits of the first that the second lacks.
+/// Returns the bits of the first that the second lacks.
 impl Sub for Selection {
     type Output = Selection;
 
@@ -309,7 +310,7 @@ impl Sub for Selection {
     }
 }
 
-/// As the operator, in place.
+/// Acts as the operator, in place.
 impl SubAssign for Selection {
     ghost sub_assign_gives = { λ a b r. r.0 ≡ lacking a.0 b.0 };
 
@@ -318,7 +319,7 @@ impl SubAssign for Selection {
     }
 }
 
-/// The named bits that the set lacks.
+/// Returns the named bits that the set lacks.
 impl Not for Selection {
     type Output = Selection;
 
@@ -329,7 +330,7 @@ impl Not for Selection {
     }
 }
 
-// The named bits and their letters, in the order in which they are written.
+// has the named bits and their letters, in the order in which they are written
 const LETTERS: [(u16, char); 13] = [
     (2, 'c'),
     (4, 'p'),
@@ -346,8 +347,8 @@ const LETTERS: [(u16, char); 13] = [
     (8192, '9'),
 ];
 
-/// Writes the letter of each named bit, in the order `c`, `p`, `s`, `0` to `9`. Where it returns
-/// `Ok`, all of it was written.
+/// Writes the letter of each named bit, in the order `c`, `p`, `s`, `0` to `9`. If it returns `Ok`,
+/// all of it was written.
 impl fmt::Display for Selection {
     ghost use Rattle.esc_osc_values.specs.Selections.{selection_text};
 
@@ -367,8 +368,8 @@ impl Selection {
     ghost use Rattle.std.specs.Prelude.{MatchOption};
     ghost use Rattle.esc_osc_values.specs.Selections.{selection_of};
 
-    // The selection that these letters name, in any order and number; no letters name SELECT and
-    // CUT0.
+    // Returns the selection that these letters name, in any order and number; no letters name
+    // SELECT and CUT0.
     pub(crate) fn from_letters(text: &[u8]) -> Option<Selection>
         ensures { MatchOption result (selection_of text.now ≡ None)
             (λ s. selection_of text.now ≡ Some s.0) }
@@ -388,7 +389,7 @@ impl Selection {
     }
 }
 
-// The bit that a letter names, or 0.
+// Returns the bit that a letter names, or 0.
 fn letter_bit(letter: u8) -> u16
     ensures { result ≡ letter_bit letter }
 {

@@ -1,4 +1,5 @@
-//! How lists and other values are written after their code.
+//! This module writes lists and other values after their code. An error is that of the writer below
+//! the formatter.
 ghost use Rattle.std.specs.Prelude.{Some, ◌∷◌, ◌++◌, codes};
 ghost use Rattle.std.specs.Fmt.{DisplaysOnOk, decimal};
 ghost use Rattle.std.specs.List.{flat_map};
@@ -22,7 +23,7 @@ use esc_values::{Items, Text};
 use std::alloc::Allocator;
 use std::fmt;
 
-/// `before`, and then the text.
+/// Writes `before`, and then the text.
 pub fn write_text<W: fmt::Write, A: Allocator>(
     before: &str,
     text: &Text<A>,
@@ -34,7 +35,7 @@ pub fn write_text<W: fmt::Write, A: Allocator>(
     f.write_str(text.as_str())
 }
 
-/// The code, and the selection.
+/// Writes the code, and the selection.
 pub fn write_selection<W: fmt::Write>(
     selection: &Selection,
     f: &mut fmt::Formatter<W>,
@@ -45,7 +46,7 @@ pub fn write_selection<W: fmt::Write>(
     write!(f, "52;{selection}")
 }
 
-/// The code, the selection, and the question for its text.
+/// Writes the code, the selection, and the question for its text.
 pub fn write_question<W: fmt::Write>(
     selection: &Selection,
     f: &mut fmt::Formatter<W>,
@@ -56,7 +57,7 @@ pub fn write_question<W: fmt::Write>(
     write!(f, "52;{selection};?")
 }
 
-/// The code, the selection, and the text in base64.
+/// Writes the code, the selection, and the text in base64.
 pub fn write_content<W: fmt::Write, A: Allocator>(
     selection: &Selection,
     content: &Text<A>,
@@ -70,7 +71,7 @@ pub fn write_content<W: fmt::Write, A: Allocator>(
     write!(f, "52;{selection};{text}")
 }
 
-/// The code, and what the progress is.
+/// Writes the code, and the progress.
 pub fn write_progress<W: fmt::Write>(progress: &Progress, f: &mut fmt::Formatter<W>) -> fmt::Result
     ensures { DisplaysOnOk W.write_str_gives f.old result
         (Some (codes "9;" ++ progress_text progress.now)) f.new }
@@ -84,7 +85,7 @@ pub fn write_progress<W: fmt::Write>(progress: &Progress, f: &mut fmt::Formatter
     }
 }
 
-/// The code, and the pairs with `;` between them.
+/// Writes the code, and the pairs with `;` between them.
 pub fn write_pairs<W: fmt::Write>(
     pairs: &[ChangeColorPair],
     f: &mut fmt::Formatter<W>,
@@ -101,7 +102,7 @@ pub fn write_pairs<W: fmt::Write>(
     write_more_pairs(rest, f)
 }
 
-// The pairs, each after a `;`.
+// Writes the pairs, each after a `;`.
 fn write_more_pairs<W: fmt::Write>(
     rest: &[ChangeColorPair],
     f: &mut fmt::Formatter<W>,
@@ -117,7 +118,7 @@ fn write_more_pairs<W: fmt::Write>(
     Ok(())
 }
 
-/// The code that changes the dynamic colour, and the colours, each after a `;`.
+/// Writes the code that changes the dynamic colour, and the colours, each after a `;`.
 pub fn write_dynamic<W: fmt::Write>(
     number: DynamicColorNumber,
     colors: &[ColorOrQuery],
@@ -130,7 +131,7 @@ pub fn write_dynamic<W: fmt::Write>(
     write_colors(change_code(number).as_code(), colors, f)
 }
 
-/// The code that resets the dynamic colour.
+/// Writes the code that resets the dynamic colour.
 pub fn write_reset<W: fmt::Write>(
     number: DynamicColorNumber,
     f: &mut fmt::Formatter<W>,
@@ -141,7 +142,7 @@ pub fn write_reset<W: fmt::Write>(
     f.write_str(reset_code(number).as_code())
 }
 
-// The code, and the colours, each after a `;`.
+// Writes the code, and the colours, each after a `;`.
 fn write_colors<W: fmt::Write>(
     code: &str,
     colors: &[ColorOrQuery],
@@ -157,7 +158,7 @@ fn write_colors<W: fmt::Write>(
     Ok(())
 }
 
-/// The code, and the numbers, each after a `;`.
+/// Writes the code, and the numbers, each after a `;`.
 pub fn write_numbers<W: fmt::Write>(numbers: &[u8], f: &mut fmt::Formatter<W>) -> fmt::Result
     ensures { DisplaysOnOk W.write_str_gives f.old result
         (Some (codes "104" ++ flat_map (λ n. 0x3b ∷ decimal n) numbers.now)) f.new }
@@ -169,7 +170,7 @@ pub fn write_numbers<W: fmt::Write>(numbers: &[u8], f: &mut fmt::Formatter<W>) -
     Ok(())
 }
 
-/// The code, and the texts, each after a `;`.
+/// Writes the code, and the texts, each after a `;`.
 pub fn write_texts<W: fmt::Write, A: Allocator>(
     texts: &[Text<A>],
     f: &mut fmt::Formatter<W>,
@@ -184,7 +185,7 @@ pub fn write_texts<W: fmt::Write, A: Allocator>(
     Ok(())
 }
 
-/// The lossy texts of the parts, with `;` between them.
+/// Writes the lossy texts of the parts, with `;` between them.
 pub fn write_parts<W: fmt::Write, A: Allocator>(
     parts: &[Items<u8, A>],
     f: &mut fmt::Formatter<W>,
@@ -200,7 +201,7 @@ pub fn write_parts<W: fmt::Write, A: Allocator>(
     write_more_parts(rest, f)
 }
 
-// The lossy texts of the parts, each after a `;`.
+// Writes the lossy texts of the parts, each after a `;`.
 fn write_more_parts<W: fmt::Write, A: Allocator>(
     rest: &[Items<u8, A>],
     f: &mut fmt::Formatter<W>,

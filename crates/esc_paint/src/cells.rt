@@ -16,7 +16,7 @@ use esc_terminal::Styles;
 use fallible_alloc::{push_char, push_str};
 use std::alloc::{AllocError, Allocator};
 
-// The look of a blank cell, if characters look so: it has the background.
+// Returns the look of a blank cell, if characters look so: it has the background.
 fn erased_look(look: &Look) -> Look
     ensures { result ≡ erased_look look.now }
 {
@@ -104,7 +104,7 @@ fn push_content<A: Allocator>(
 }
 
 impl Pen {
-    // After a cell.
+    // Returns the pen after a cell.
     fn after(self, look: &Look, content: Content) -> Pen
         ensures { result ≡ pen_by self look.now content }
     {
@@ -119,7 +119,7 @@ impl Pen {
         }
     }
 
-    // After a blank one that looks so.
+    // Returns the pen after a blank cell that looks so.
     fn after_blank(self, look: Look) -> Pen
         ensures { result ≡ pen_blank look self }
     {

@@ -20,7 +20,7 @@ pub fn paints_new<A: Allocator>()
     paints::<A>();
 }
 
-/// And so does a terminal that was fed a stream with nothing unfinished.
+/// A terminal that was fed a stream with nothing unfinished shows it too.
 pub fn paints_over<A: Allocator>()
     ensures { PaintsOver A }
 {

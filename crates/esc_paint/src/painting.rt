@@ -79,7 +79,7 @@ fn push_cursor<A: Allocator, B: Allocator>(
     }
 }
 
-// Whether a wrap is pending after a character in the last column.
+// Returns whether a wrap is pending after a character in the last column.
 fn is_waiting<B: Allocator>(screen: &Screen<B>, cells: &[Cell]) -> bool
     requires { cells.now ≡ row_of_cursor (grid_of screen.now) }
     ensures { result ≡ is_waiting (size_of screen.now) (grid_of screen.now) }
@@ -88,7 +88,7 @@ fn is_waiting<B: Allocator>(screen: &Screen<B>, cells: &[Cell]) -> bool
     cursor.pending && cursor.column as u32 + 1 == screen.width() as u32 && ends_drawn(cells)
 }
 
-// Whether a character stands in the last cell.
+// Returns whether a character stands in the last cell.
 fn ends_drawn(cells: &[Cell]) -> bool
     ensures { result ≡ ends_drawn cells.now }
 {

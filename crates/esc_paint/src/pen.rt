@@ -7,7 +7,7 @@ use esc_style::Look;
 /// The state between two cells of a row.
 #[derive(Clone, Copy)]
 pub struct Pen {
-    /// Whether the cursor is at the place of the next cell.
+    /// Says whether the cursor is at the place of the next cell.
     pub here: bool,
     /// The look of the next characters.
     pub look: Look,
@@ -16,7 +16,7 @@ pub struct Pen {
 }
 
 impl Pen {
-    /// At the beginning of a row.
+    /// Returns the pen at the beginning of a row.
     pub(crate) fn first() -> Pen
         ensures { result ≡ first_pen }
     {

@@ -181,7 +181,7 @@ module _ {A : Type 0} (bs : List ℕ) (u v : Unfinished A) where
       builder_run PushesShort (λ z. dcs_payload.Short (with_value x z)) (λ p q. refl)
       (short_step x) bs x.value y u v is room h same
 
--- a run of which nothing is kept
+-- nothing is kept of a run
 nothing_step : (A : Type 0) (limit : Option ℕ) (c e : Count) (m : Mode) (b : ℕ)
     → Keeps {A = A} limit dcs_payload.Nothing c m
     → Keeps {A = A} limit dcs_payload.Nothing e (mode_with_byte m b)

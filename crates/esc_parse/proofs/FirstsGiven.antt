@@ -89,8 +89,8 @@ prefix_empty limit s b c e =
     left_empty (yield_within limit s b) (yield_within limit (s ++ b) c)
     (sym (yield_append limit s b c) ∙ e)
 
--- the number of bytes, of which at were taken, and then n of the rest, which is at least one if
--- there are any
+-- the number of bytes is that of the bytes that were taken, and then n of the rest, which is at
+-- least one if there are any
 pub least : (n : ℕ) → 0 ≤ n
 least n = omega arith
 

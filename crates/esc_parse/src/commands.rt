@@ -1,4 +1,4 @@
-//! Operating system commands from their texts.
+//! Operating system commands from their texts. An error is that memory was refused.
 ghost use Rattle.std.specs.Prelude.{◌≡◌, IfOk, OnErr};
 ghost use Rattle.esc_values.specs.Clear.{parts_of};
 ghost use Rattle.esc_osc.specs.Reading.{meaning};
@@ -9,7 +9,7 @@ use esc_frame::split::split_parts;
 use esc_osc::OperatingSystemCommand;
 use std::alloc::{AllocError, Allocator};
 
-/// The command that the parts of a text mean.
+/// Returns the command that the parts of a text mean.
 pub fn command_in<A: Allocator + Copy>(
     alloc: A,
     text: &[u8],

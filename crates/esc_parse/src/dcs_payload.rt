@@ -31,7 +31,7 @@ pub enum DcsPayload<A: Allocator = Global> {
     Over,
 }
 
-// The state that is kept of a string that begins.
+// Returns the state that is kept of a string that begins.
 #[tactic(auto, using(crate::proofs::DataLimits::zero_within))]
 pub(crate) fn begin<A: Allocator + Copy>(
     alloc: A,
@@ -61,7 +61,7 @@ pub(crate) fn begin<A: Allocator + Copy>(
     }
 }
 
-// The action of a header that enters a mode.
+// Returns the action of a header that enters a mode.
 pub(crate) fn header_action<A: Allocator + Copy>(
     alloc: A,
     byte: u8,
@@ -78,7 +78,7 @@ pub(crate) fn header_action<A: Allocator + Copy>(
     Ok(Action::DeviceControl(DeviceControlMode::Enter(enter)))
 }
 
-// The action at the end of a string, if it has one.
+// Returns the action at the end of a string, if it has one.
 #[tactic(auto, using(crate::proofs::DataLimits::over_gives))]
 pub(crate) fn end<A: Allocator + Copy>(
     alloc: A,

@@ -1,4 +1,4 @@
-//! From bytes to actions: the [`Parser`], and the sinks that take its actions.
+//! This crate makes actions of bytes: the [`Parser`], and the sinks that take its actions.
 //!
 //! Events go to a [`Performer`](performer::Performer), which makes actions of them and keeps the
 //! state of an unfinished device control string. No text is made of actions here: `esc_write` does

@@ -42,7 +42,7 @@ pub struct Parser<A: Allocator = Global> {
 impl<A: Allocator + Copy> Parser<A> {
     ghost use Rattle.esc_parse.specs.Fed.{IsBroken, ParserHasConsumed, ParserHasConsumedWithin};
 
-    /// A parser at the beginning of a stream. Takes no memory.
+    /// Returns a parser at the beginning of a stream. Takes no memory.
     #[tactic(auto, unfolding(crate::specs::Fed::ParserHasConsumedWithin))]
     pub fn new(alloc: A) -> Parser<A>
         ensures { ParserHasConsumed [] result }
@@ -54,8 +54,8 @@ impl<A: Allocator + Copy> Parser<A> {
         }
     }
 
-    /// A parser at the beginning of a stream that keeps at most `limit` bytes of a segment. Takes
-    /// no memory.
+    /// Returns a parser at the beginning of a stream that keeps at most `limit` bytes of a segment.
+    /// Takes no memory.
     ///
     /// An operating system command, an application program command, and a sixel image, termcap
     /// query or short control with more data give no action but the controls in their openers, and
@@ -83,13 +83,14 @@ impl<A: Allocator + Copy> Parser<A> {
         self.unfinished.restart();
     }
 
-    /// The number of bytes that are kept of the unfinished segment. An operating system command
-    /// keeps its text in UTF-8; an application program command its bytes 20 to 7F; a device control
-    /// string its parameter bytes 30 to 39 and 3B until its final byte, and after it the data of a
-    /// sixel image, termcap query or short control. Any other device control string keeps no data:
-    /// a mode hands it out as it comes, and one whose header does not have its form is passed over.
-    /// The count is 0 also once the limit was passed, if no such segment is unfinished, and after a
-    /// failure. Without a limit a count past [`usize::MAX`] is returned as `usize::MAX`.
+    /// Returns the number of bytes that are kept of the unfinished segment. An operating system
+    /// command keeps its text in UTF-8; an application program command its bytes 20 to 7F; a device
+    /// control string its parameter bytes 30 to 39 and 3B until its final byte, and after it the
+    /// data of a sixel image, termcap query or short control. Any other device control string keeps
+    /// no data: a mode hands it out as it comes, and one whose header does not have its form is
+    /// passed over. The count is 0 also once the limit was passed, if no such segment is
+    /// unfinished, and after a failure. Without a limit a count past [`usize::MAX`] is returned as
+    /// `usize::MAX`.
     pub fn kept(&self) -> usize
         ensures given { After self.now (λ limit s. (gs : List Segment) → IsCut s gs
             → result ≡ min (kept_of_cut limit gs + data_kept limit s) most) }
@@ -147,8 +148,9 @@ impl<A: Allocator + Copy> Parser<A> {
         }
     }
 
-    /// The actions that `bytes` add to the meaning of the bytes fed before, in order. They can be
-    /// written, but for the four kinds of [`is_exception`](esc_actions::exceptions::is_exception).
+    /// Returns the actions that `bytes` add to the meaning of the bytes fed before, in order. They
+    /// can be written, but for the four kinds of
+    /// [`is_exception`](esc_actions::exceptions::is_exception).
     ///
     /// `ParseError::Memory` says that a request for memory was refused; the actions so far are
     /// dropped, and the parser has failed. It does not come if the bytes fed before and these hold

@@ -1,4 +1,4 @@
-//! From events to actions.
+//! This module makes actions of events.
 ghost use Rattle.std.specs.Prelude.{◌≡◌, ◌⊎◌, ℕ, [], ◌∷◌, true, IfOk, OnErr, Option, map};
 ghost use Rattle.std.specs.List.{FoldsTo};
 ghost use Rattle.esc_values.specs.Clear.{parts_of};
@@ -36,7 +36,7 @@ pub struct Performer<S, A: Allocator = Global> {
     pub unfinished: Unfinished<A>,
 }
 
-// The intermediate, if there is exactly one.
+// Returns the intermediate, if there is exactly one.
 fn lone_of(intermediates: &[u8]) -> Option<u8>
     ensures { result ≡ only_item intermediates.now }
 {
@@ -102,8 +102,8 @@ fn give_several<A: Allocator + Copy, S: Sink<Action<A>>>(
     }
 }
 
-// The same, if the sink may take it from its parameters. The action of one short rendition is made
-// here.
+// Does the same, if the sink may take it from its parameters. The action of one short rendition is
+// made here.
 #[inline(never)]
 fn give_csi<A: Allocator + Copy, S: Sink<Action<A>>>(
     sink: &mut S,

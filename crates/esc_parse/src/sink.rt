@@ -33,7 +33,7 @@ pub trait ActionShape {
     // it is an image
     ghost is_image: { Self → Type 0 };
 
-    /// The printed character in this form.
+    /// Returns the printed character in this form.
     fn print(c: char) -> Self
         ensures { result ≡ print c };
 }
@@ -140,7 +140,7 @@ pub trait Sink<T: ActionShape> {
         Ok(false)
     }
 
-    /// The same for an operating system command, from its text, whose parts are between `;`.
+    /// Does the same for an operating system command, from its text, whose parts are between `;`.
     #[inline]
     fn receive_command(&mut self, _text: &[u8]) -> Result<bool, AllocError>
         requires { MayReceiveBy T.is_command is_ready may takes self.old (parts_of _text.now ∷ []) }
@@ -151,10 +151,11 @@ pub trait Sink<T: ActionShape> {
         Ok(false)
     }
 
-    /// Whether every control sequence with this final byte, whatever its parameters, would leave it
-    /// as it is. If it returns true, as it does not by default, such a sequence is passed over: no
-    /// action is made of it, and it is not given to [`receive_sequence`](Sink::receive_sequence).
-    /// One with more parameters than are kept is still given.
+    /// Returns whether every control sequence with this final byte, whatever its parameters, would
+    /// leave it as it is. If it returns true, as it does not by default, such a sequence is passed
+    /// over: no action is made of it, and it is not given to
+    /// [`receive_sequence`](Sink::receive_sequence). One with more parameters than are kept is
+    /// still given.
     #[inline]
     fn drops_sequences(&self, _control: u8) -> bool
         ensures { IsTrue result → (es : List CsiParam) → FoldsTo (By T.is_sequence takes)
@@ -163,8 +164,8 @@ pub trait Sink<T: ActionShape> {
         false
     }
 
-    /// Whether every image, of kitty's protocol or sixel, would leave it as it is. If it returns
-    /// true, as it does not by default, none is made and received.
+    /// Returns whether every image, of kitty's protocol or sixel, would leave it as it is. If it
+    /// returns true, as it does not by default, none is made and received.
     #[inline]
     fn drops_images(&self) -> bool
         ensures { IsTrue result → (a : T) → T.is_image a → takes self.now a self.now }
@@ -204,7 +205,7 @@ pub struct Collect<A: Allocator = Global> {
 }
 
 impl<A: Allocator> Collect<A> {
-    /// No action yet. Takes no memory.
+    /// Returns an empty list of actions. Takes no memory.
     pub fn new(alloc: A) -> Collect<A>
         ensures { result.actions.items ≡ [] }
     {

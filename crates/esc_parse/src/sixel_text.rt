@@ -1,4 +1,4 @@
-//! The state that is kept of an unfinished sixel image.
+//! The state that is kept of an unfinished sixel image. An error is that memory was refused.
 ghost use Rattle.std.specs.Prelude.{◌≡◌, ℕ, ℤ, List, [], ◌∷◌, ◌++◌, IfOk, OnErr, OnOk};
 ghost use Rattle.std.specs.List.{FoldsTo};
 ghost use Rattle.esc_sixel.specs.Items.{items};
@@ -22,7 +22,7 @@ pub struct SixelText<A: Allocator = Global> {
 }
 
 impl<A: Allocator + Copy> SixelText<A> {
-    /// An image with these parameters, before any data. Takes no memory.
+    /// Returns an image with these parameters, before any data. Takes no memory.
     #[tactic(auto, unfolding(crate::specs::Sixels::Holds))]
     pub fn new(alloc: A, params: &[i64]) -> SixelText<A>
         ensures { Holds params.now [] result }
@@ -34,7 +34,7 @@ impl<A: Allocator + Copy> SixelText<A> {
         }
     }
 
-    /// One more byte of the data.
+    /// Takes one more byte of the data.
     #[tactic(auto, unfolding(crate::specs::Sixels::Holds))]
     pub fn push(&mut self, byte: u8) -> Result<(), AllocError>
         ensures ok { (ps : List ℤ) (s : List ℕ) → Holds ps s self.old
@@ -57,7 +57,7 @@ impl<A: Allocator + Copy> SixelText<A> {
         result
     }
 
-    /// The image that the parameters and all bytes mean.
+    /// Returns the image that the parameters and all bytes mean.
     #[tactic(auto, unfolding(crate::specs::Sixels::Holds))]
     pub fn finish(self) -> Result<Sixel<A>, AllocError>
         ensures ok { (ps : List ℤ) (s : List ℕ) → Holds ps s self

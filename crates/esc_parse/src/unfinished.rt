@@ -1,4 +1,4 @@
-//! The device control string that is unfinished.
+//! The device control string that is unfinished. An error is that memory was refused.
 ghost use Rattle.std.specs.Prelude.{◌≡◌, ◌<◌, ◌≤◌, IfOk, IsTrue, OnErr, OnOk, Option, length, min, option_to_list, take, true};
 ghost use Rattle.std.specs.List.{FoldsTo, list_all};
 ghost use Rattle.std.specs.Option.{option_map};
@@ -24,14 +24,14 @@ use std::mem;
 pub struct Unfinished<A: Allocator = Global> {
     /// The string itself.
     pub dcs_payload: DcsPayload<A>,
-    /// How many bytes of data came.
+    /// Says how many bytes of data came.
     pub data: Count,
-    /// How many are kept at most.
+    /// Says how many are kept at most.
     pub limit: Option<usize>,
 }
 
 impl<A: Allocator + Copy> Unfinished<A> {
-    /// Nothing is unfinished. Takes no memory.
+    /// Returns a value with nothing unfinished. Takes no memory.
     #[tactic(auto, unfolding(crate::specs::Fed::Hooks))]
     pub fn new(limit: Option<usize>) -> Unfinished<A>
         ensures hooks { Hooks limit result plain }
@@ -44,7 +44,7 @@ impl<A: Allocator + Copy> Unfinished<A> {
         }
     }
 
-    /// Nothing is unfinished any more.
+    /// Drops the unfinished string.
     #[tactic(auto, unfolding(crate::specs::Fed::Hooks))]
     pub fn restart(&mut self)
         ensures hooks { Hooking self.old (λ limit m. Hooks limit self.new plain) }
@@ -56,7 +56,7 @@ impl<A: Allocator + Copy> Unfinished<A> {
         self.dcs_payload = DcsPayload::Nothing;
     }
 
-    /// The unfinished string; nothing is unfinished after that.
+    /// Returns the unfinished string; nothing is unfinished after that.
     pub fn take(&mut self) -> Unfinished<A>
         ensures taken { result ≡ self.old }
         ensures nothing { self.new.dcs_payload ≡ dcs_payload.Nothing }
@@ -65,7 +65,7 @@ impl<A: Allocator + Copy> Unfinished<A> {
         mem::replace(self, empty)
     }
 
-    /// A string begins.
+    /// Begins a string.
     #[tactic(auto, unfolding(crate::specs::Fed::Hooks))]
     pub fn begin(
         &mut self,
@@ -84,7 +84,7 @@ impl<A: Allocator + Copy> Unfinished<A> {
         Ok(())
     }
 
-    /// Whether it is a mode, of which nothing has to be kept.
+    /// Returns whether it is a mode, which keeps nothing.
     #[tactic(auto, unfolding(crate::specs::Fed::Hooks))]
     #[inline]
     pub fn is_entered(&self) -> bool
@@ -94,8 +94,8 @@ impl<A: Allocator + Copy> Unfinished<A> {
         matches!(self.dcs_payload, DcsPayload::Entered)
     }
 
-    /// The number of bytes of its data that come first in `bytes`, if only its end makes an action:
-    /// the bytes 20 to 7E, for a string that is no mode.
+    /// Returns the number of bytes of its data that come first in `bytes`, if only its end makes an
+    /// action: the bytes 20 to 7E, for a string that is no mode.
     #[tactic(auto, unfolding(crate::specs::Fed::Hooks), using(crate::proofs::DataSkips::keeps_over, crate::proofs::DataSkips::run_is_data))]
     #[inline]
     pub fn data_ahead(&self, bytes: &[u8]) -> usize
@@ -113,7 +113,7 @@ impl<A: Allocator + Copy> Unfinished<A> {
         }
     }
 
-    /// One more byte of its data. Past the limit all that was kept of it is dropped.
+    /// Takes one more byte of its data. Past the limit all that was kept of it is dropped.
     #[tactic(auto, unfolding(crate::specs::Fed::Hooks), using(crate::proofs::DataLimits::counts_more, crate::proofs::DataLimits::passed, crate::proofs::DataLimits::over_stays))]
     #[inline]
     pub fn push(&mut self, byte: u8) -> Result<(), AllocError>
@@ -159,7 +159,7 @@ impl<A: Allocator + Copy> Unfinished<A> {
         Ok(())
     }
 
-    // Whether so many bytes more are within the limit.
+    // Returns whether so many bytes more are within the limit.
     fn has_room(&self, more: usize) -> bool
         ensures { result ≡ true → HasRoom self.now.limit self.now.data more }
     {
@@ -182,7 +182,7 @@ impl<A: Allocator + Copy> Unfinished<A> {
         }
     }
 
-    /// Whether it is a sixel image: then its end gives an image or nothing.
+    /// Returns whether it is a sixel image: then its end gives an image or nothing.
     #[tactic(auto, unfolding(crate::specs::Fed::Hooks), using(crate::proofs::Images::sixel_images))]
     #[inline]
     pub fn is_sixel(&self) -> bool
@@ -200,7 +200,7 @@ impl<A: Allocator + Copy> Unfinished<A> {
         self.dcs_payload = DcsPayload::Nothing;
     }
 
-    /// The action of its end, if it has one. Nothing is unfinished then.
+    /// Returns the action of its end, if it has one. Nothing is unfinished then.
     #[tactic(auto, unfolding(crate::specs::Fed::Hooks))]
     pub fn end(&mut self, alloc: A) -> Result<Option<Action<A>>, AllocError>
         ensures hooks { Hooking self.old (λ limit m. Hooks limit self.new plain) }
@@ -214,8 +214,8 @@ impl<A: Allocator + Copy> Unfinished<A> {
         )
     }
 
-    /// The number of bytes of its data that are kept; 0 once they passed the limit, and for a
-    /// string that keeps none.
+    /// Returns the number of bytes of its data that are kept; 0 once they passed the limit, and for
+    /// a string that keeps none.
     #[tactic(auto, unfolding(crate::specs::Fed::Hooks), using(crate::proofs::DataLimits::zero_within))]
     pub fn kept(&self) -> usize
         ensures counts { Hooking self.now (λ limit m.

@@ -1,4 +1,4 @@
-//! How characters are written from here on.
+//! This module says how characters are written from here on.
 ghost use Rattle.std.specs.Prelude.{◌≡◌, ◌∷◌, [], IsTrue};
 ghost use Rattle.esc_pen.specs.Pens.{pen_by, pen_by_all, pen_by_optional, plain_pen};
 ghost use Rattle.typed_functions.specs.Selections.{left, selection_of, selections};
@@ -8,26 +8,26 @@ use esc_sequences::{Intensity, Underline};
 use esc_values::CsiParam;
 use typed_functions::{Blink, ColorSpec, Rendition, Renditions};
 
-/// How characters are written from here on: the renditions that hold for them (ECMA-48, 8.3.117,
-/// SGR; xterm's list, "Character Attributes (SGR)"). Fonts, frames, marks of ideograms, and how
-/// high and how wide characters are are no part of it.
+/// Says how characters are written from here on: the renditions that hold for them (ECMA-48,
+/// 8.3.117, SGR; xterm's list, "Character Attributes (SGR)"). Fonts, frames, marks of ideograms,
+/// and how high and how wide characters are are no part of it.
 #[derive(Clone, Copy, Debug, PartialEq, Eq)]
 pub struct Pen {
-    /// How bright they are.
+    /// Says how bright they are.
     pub intensity: Intensity,
-    /// Whether they are slanted.
+    /// Says whether they are slanted.
     pub italic: bool,
-    /// How they are underlined.
+    /// Says how they are underlined.
     pub underline: Underline,
-    /// How they blink.
+    /// Says how they blink.
     pub blink: Blink,
-    /// Whether their colour and that of the background are exchanged.
+    /// Says whether their colour and that of the background are exchanged.
     pub inverse: bool,
-    /// Whether they are hidden.
+    /// Says whether they are hidden.
     pub concealed: bool,
-    /// Whether they are crossed out.
+    /// Says whether they are crossed out.
     pub strikethrough: bool,
-    /// Whether they have a line above.
+    /// Says whether they have a line above.
     pub overline: bool,
     /// Their colour.
     pub foreground: Ink,
@@ -38,7 +38,7 @@ pub struct Pen {
 }
 
 impl Pen {
-    /// As at first: none of the renditions.
+    /// Returns a pen as at first: none of the renditions holds.
     pub fn plain() -> Pen
         ensures { result ≡ plain_pen }
     {
@@ -118,8 +118,8 @@ impl Pen {
     }
 }
 
-// Whether the parameters are of one rendition, if that is seen at once: a number, or the numbers of
-// a colour of the palette.
+// Returns whether the parameters are of one rendition, if that is seen at once: a number, or the
+// numbers of a colour of the palette.
 #[inline]
 fn is_one(params: &[CsiParam]) -> bool
     ensures { IsTrue result → selections params.now ≡ selection_of params.now ∷ [] }

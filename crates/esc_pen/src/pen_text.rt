@@ -14,7 +14,7 @@ use typed_functions::{Blink, ColorSpec};
 
 impl Pen {
     /// Appends a control sequence for each of its renditions: these make it of a plain one, for
-    /// which nothing is appended.
+    /// which nothing is appended. The error is that memory was refused.
     pub fn push_text<A: Allocator>(&self, text: &mut String<A>) -> Result<(), AllocError>
         ensures ok { OnOk result (string_bytes text.new
             ≡ string_bytes text.old ++ pen_text self.now) }
@@ -174,7 +174,7 @@ fn push_ascii<A: Allocator>(text: &mut String<A>, bytes: &[u8]) -> Result<(), Al
     fallible_alloc::push_str(text, as_str(bytes))
 }
 
-// The number of a colour that has a name.
+// Returns the number of a colour that has a name.
 fn named_number(base: u8, index: u8) -> u8
     requires base { base ≤ 40 }
     requires index { index < 16 }

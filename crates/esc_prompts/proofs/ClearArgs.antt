@@ -1,4 +1,4 @@
--- What is read of clear parts is writable.
+-- A prompt that is read from clear parts is writable.
 use Rattle.std.proofs.Common.{ℕ, ℤ, pos, ◌≡◌, ◌==◌, nat_eq, inl, inr, List, [], ◌∷◌, length, codes, Option, Some, None, lit<, subst}
 use Rattle.std.proofs.lemmas.Bool.{cases_Bool}
 use Rattle.std.specs.Cmp.Lexicographic.{pointwise}

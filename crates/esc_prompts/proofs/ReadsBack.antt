@@ -88,7 +88,7 @@ aid_joined : (aid : Option (List ℕ)) → aid_text aid
 aid_joined None = refl
 aid_joined (Some a) = ap (λ t. codes ";aid=" ++ t) (sym (append-nil a))
 
--- what is read of them
+-- the keys are read from their text
 some_length : (e : List ℕ × List ℕ) → (length (pair_text e) == 0) ≡ false
 some_length e =
     ne_eqb (length (pair_text e)) 0 (λ h. omega (arith, h, length-append e.0 (0x3d ∷ e.1)))

@@ -46,7 +46,7 @@ status_of [] = Some (prompt.CommandStatus (pos 0) None)
 status_of (s ∷ args) =
     option_map (λ aid. prompt.CommandStatus (unwrap_or (signed_of 32 s) (pos 0)) aid) (aid_of args)
 
--- what a letter makes of the parts after it, one line a letter
+-- the prompt of a letter and the parts after it, one line a letter
 abbrev pub prompt_of_letter : {A : Type 0} → ℕ → List (List ℕ) → Option (FinalTermSemanticPrompt A)
 prompt_of_letter c args = if c == 0x4c then lone_prompt prompt.FreshLine args
     else if c == 0x41 then option_map (λ (f : Option (List ℕ)
@@ -60,8 +60,7 @@ prompt_of_letter c args = if c == 0x4c then lone_prompt prompt.FreshLine args
     else if c == 0x44 then status_of args
     else None
 
--- the prompt of the parts after the code: a letter alone in the first of them, and what it makes of
--- the others
+-- the prompt of the parts after the code: a letter alone in the first of them, and the others
 abbrev pub prompt_of : {A : Type 0} → List (List ℕ) → Option (FinalTermSemanticPrompt A)
 prompt_of ((c ∷ []) ∷ args) = prompt_of_letter c args
 prompt_of args = None
@@ -76,7 +75,7 @@ abbrev pub click_text : Option FinalTermClick → List ℕ
 click_text None = []
 click_text (Some c) = codes ";cl=" ++ click_word c
 
--- the text of a prompt: the code, the letter, and what follows it
+-- the text of a prompt: the code, the letter, and the text after it
 abbrev pub prompt_text : {A : Type 0} → FinalTermSemanticPrompt A → List ℕ
 prompt_text prompt.FreshLine = codes "133;L"
 prompt_text (prompt.FreshLineAndStartPrompt aid cl) = codes "133;A" ++ aid_text aid ++ click_text cl
@@ -103,7 +102,7 @@ IsWritablePrompt (prompt.MarkEndOfInputAndStartOfOutput aid) = IsAid aid
 IsWritablePrompt (prompt.CommandStatus s aid) = IsSigned 32 s × IsAid aid
 IsWritablePrompt p = Unit {0}
 
--- the prompt's text is the code and clear parts, of which the prompt is read
+-- says that the prompt's text is the code and clear parts, from which the prompt is read
 abbrev pub WritesBack : {A : Type 0} → FinalTermSemanticPrompt A → Type 0
 WritesBack {A = A} p =
     (args : List (List ℕ)) × (prompt_text p ≡ joined (codes "133" ∷ args)) × AreClearParts args

@@ -13,7 +13,7 @@ click_word click.MultipleLine = codes "m"
 click_word click.ConservativeVertical = codes "v"
 click_word click.SmartVertical = codes "w"
 
--- what a word of `cl` names
+-- the value that a word of `cl` names
 abbrev pub click_of : List ℕ → Option FinalTermClick
 click_of w = if pointwise nat_eq w (codes "line") then Some click.Line
     else if pointwise nat_eq w (codes "m") then Some click.MultipleLine
@@ -28,7 +28,7 @@ kind_word kind.RightSide = codes "r"
 kind_word kind.Continuation = codes "c"
 kind_word kind.Secondary = codes "s"
 
--- what a word of `k` names
+-- the value that a word of `k` names
 abbrev pub kind_of : List ℕ → Option FinalTermPromptKind
 kind_of w = if pointwise nat_eq w (codes "i") then Some kind.Initial
     else if pointwise nat_eq w (codes "r") then Some kind.RightSide

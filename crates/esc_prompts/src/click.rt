@@ -1,4 +1,4 @@
-//! How a click moves the cursor in a prompt's input.
+//! This module says how a click moves the cursor in a prompt's input.
 ghost use Rattle.std.specs.Prelude.{◌≡◌, MatchResult, Some, None};
 ghost use Rattle.esc_values.specs.declared.error.Error.TheVariants.{Invalid};
 ghost use Rattle.esc_prompts.specs.Words.{click_of, click_word};
@@ -6,8 +6,8 @@ ghost use Rattle.esc_prompts.specs.Words.{click_of, click_word};
 use esc_values::Error;
 use std::fmt;
 
-/// Which movements of the cursor the shell takes where the user clicks on its input (FinalTerm; key
-/// `cl` of operating system command 133).
+/// The value says which movements of the cursor the shell takes if the user clicks on its input
+/// (FinalTerm; key `cl` of operating system command 133).
 #[derive(Clone, Copy, Debug, PartialEq, Eq)]
 pub enum FinalTermClick {
     /// `line`: to the left and to the right within one line.
@@ -20,8 +20,8 @@ pub enum FinalTermClick {
     SmartVertical,
 }
 
-/// The value that the word names. The error is `Invalid`, for a word that names none; the text is
-/// compared byte by byte.
+/// Returns the value that the word names. The error is `Invalid`, for a word that names none; the
+/// text is compared byte by byte.
 impl TryFrom<&str> for FinalTermClick {
     type Error = Error;
 
@@ -39,7 +39,7 @@ impl TryFrom<&str> for FinalTermClick {
     }
 }
 
-/// Writes the word. Where it returns `Ok`, all of it was written.
+/// Writes the word. If it returns `Ok`, all of it was written.
 impl fmt::Display for FinalTermClick {
     ghost output = { λ c. Some (click_word c) };
 

@@ -1,11 +1,11 @@
-//! The keys of a semantic prompt.
+//! This module reads the keys of a semantic prompt.
 ghost use Rattle.std.specs.Prelude.{◌≡◌, map};
 ghost use Rattle.std.specs.Option.{option_map};
 ghost use Rattle.esc_prompts.specs.Pairs.{keys_of};
 
 use esc_values::cut::key_and_value;
 
-// The values of the keys that semantic prompts have, where they are there.
+// These are the values of the keys of semantic prompts, if they are there.
 #[derive(Clone, Copy)]
 pub(crate) struct Keys<'a> {
     pub(crate) aid: Option<&'a str>,
@@ -13,7 +13,7 @@ pub(crate) struct Keys<'a> {
     pub(crate) k: Option<&'a str>,
 }
 
-// The last value of each key; none where a part that is not empty is no key and value.
+// Returns the last value of each key; none if a part that is not empty is no key and value.
 pub(crate) fn read_keys<'a>(args: &[&'a [u8]]) -> Option<Keys<'a>>
     ensures { option_map (λ v.
         record {

@@ -1,6 +1,6 @@
-//! Semantic prompts, by which a shell marks its prompts, its commands and their output (FinalTerm;
-//! operating system command 133): their values, how the parts after the code are read, and how a
-//! value is written.
+//! This crate has semantic prompts, by which a shell marks its prompts, its commands and their
+//! output (FinalTerm; operating system command 133): their values, a reader of the parts after the
+//! code, and a writer.
 //!
 //! The standard: "Semantic prompts"
 //! (<https://gitlab.freedesktop.org/Per_Bothner/specifications/blob/master/proposals/semantic-prompts.md>).

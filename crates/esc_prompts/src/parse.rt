@@ -1,4 +1,4 @@
-//! How semantic prompts are read.
+//! This module reads semantic prompts.
 ghost use Rattle.std.specs.Prelude.{◌≡◌, IfOk, OnErr, map};
 ghost use Rattle.std.specs.Option.{option_map};
 ghost use Rattle.esc_prompts.specs.Prompts.{aid_and_click, aid_of, lone_prompt, click_in, kind_among, kind_in, prompt_of_letter, prompt_of, status_of};
@@ -13,7 +13,7 @@ use esc_values::scalar::read_i32;
 use std::alloc::{AllocError, Allocator};
 
 impl<A: Allocator> FinalTermSemanticPrompt<A> {
-    /// The prompt that these parts are, which follow the code `133`; none where they are no prompt.
+    /// Returns the prompt of these parts, which follow the code `133`; none if they are no prompt.
     ///
     /// The first part is a letter. `L`, `B` and `I` come alone. After `A`, `N`, `C` and `P`, and
     /// after the status of `D`, the parts are keys and values with `=` between them, or empty; a
@@ -39,7 +39,7 @@ impl<A: Allocator> FinalTermSemanticPrompt<A> {
     }
 }
 
-// What the letter makes of the parts after it.
+// Reads the parts after the letter.
 fn read_by_letter<A: Allocator>(
     alloc: A,
     letter: u8,
@@ -67,7 +67,7 @@ fn read_by_letter<A: Allocator>(
     }
 }
 
-// The prompt, where no part follows the letter.
+// Returns the prompt, if no part follows the letter.
 fn read_alone<A: Allocator>(
     prompt: FinalTermSemanticPrompt<A>,
     args: &[&[u8]],
@@ -77,7 +77,7 @@ fn read_alone<A: Allocator>(
     if args.is_empty() { Some(prompt) } else { None }
 }
 
-// A prompt that begins on a new line.
+// Reads a prompt that begins on a new line.
 fn read_start<A: Allocator>(
     alloc: A,
     args: &[&[u8]],
@@ -91,7 +91,7 @@ fn read_start<A: Allocator>(
     }
 }
 
-// The end of a command, and a prompt that begins on a new line.
+// Reads the end of a command, and a prompt that begins on a new line.
 fn read_end<A: Allocator>(
     alloc: A,
     args: &[&[u8]],
@@ -105,7 +105,7 @@ fn read_end<A: Allocator>(
     Ok(Some(FinalTermSemanticPrompt::MarkEndOfCommandWithFreshLine { aid, cl }))
 }
 
-// A prompt of some kind.
+// Reads a prompt of some kind.
 fn read_start_of_kind<A: Allocator>(args: &[&[u8]]) -> Option<FinalTermSemanticPrompt<A>>
     ensures { result ≡ prompt_of_letter 0x50 (map (λ p. p.now) args.now) }
 {
@@ -115,7 +115,7 @@ fn read_start_of_kind<A: Allocator>(args: &[&[u8]]) -> Option<FinalTermSemanticP
     }
 }
 
-// The output of a command.
+// Reads the output of a command.
 fn read_output<A: Allocator>(
     alloc: A,
     args: &[&[u8]],
@@ -129,7 +129,7 @@ fn read_output<A: Allocator>(
     }
 }
 
-// The values of `aid` and `cl`.
+// Reads the values of `aid` and `cl`.
 fn read_aid_and_click<A: Allocator>(
     alloc: A,
     args: &[&[u8]],
@@ -146,7 +146,7 @@ fn read_aid_and_click<A: Allocator>(
     Ok(Some((copied(alloc, keys.aid)?, cl)))
 }
 
-// The value of `aid`.
+// Reads the value of `aid`.
 fn read_aid<A: Allocator>(alloc: A, args: &[&[u8]]) -> Result<Option<Option<Text<A>>>, AllocError>
     ensures ok { IfOk result (λ a. a ≡ aid_of (map (λ p. p.now) args.now)) }
     ensures refused { OnErr result (Refused A) }
@@ -157,7 +157,7 @@ fn read_aid<A: Allocator>(alloc: A, args: &[&[u8]]) -> Result<Option<Option<Text
     Ok(Some(copied(alloc, keys.aid)?))
 }
 
-// A status, and the value of `aid` after it.
+// Reads a status, and the value of `aid` after it.
 fn read_status<A: Allocator>(
     alloc: A,
     args: &[&[u8]],
@@ -178,7 +178,7 @@ fn read_status<A: Allocator>(
     }
 }
 
-// The value of `k`.
+// Reads the value of `k`.
 fn read_kind_among(args: &[&[u8]]) -> Option<FinalTermPromptKind>
     ensures { result ≡ kind_among (map (λ p. p.now) args.now) }
 {
@@ -186,7 +186,7 @@ fn read_kind_among(args: &[&[u8]]) -> Option<FinalTermPromptKind>
     read_kind(keys.k)
 }
 
-// What a word of `cl` names, where it is there.
+// Reads a word of `cl`, if it is there.
 fn read_click(word: Option<&str>) -> Option<Option<FinalTermClick>>
     ensures { result ≡ click_in (option_map (λ w. w.now) word.entry) }
 {
@@ -199,7 +199,7 @@ fn read_click(word: Option<&str>) -> Option<Option<FinalTermClick>>
     }
 }
 
-// What a word of `k` names; the initial kind where it is absent.
+// Reads a word of `k`; the initial kind if it is absent.
 fn read_kind(word: Option<&str>) -> Option<FinalTermPromptKind>
     ensures { result ≡ kind_in (option_map (λ w. w.now) word.entry) }
 {
@@ -212,7 +212,7 @@ fn read_kind(word: Option<&str>) -> Option<FinalTermPromptKind>
     }
 }
 
-// The text, where there is one.
+// Returns a copy of the text, if there is one.
 fn copied<A: Allocator>(alloc: A, text: Option<&str>) -> Result<Option<Text<A>>, AllocError>
     ensures ok { IfOk result (λ t. t ≡ option_map (λ s. s.now) text.entry) }
     ensures refused { OnErr result (Refused A) }

@@ -1,11 +1,11 @@
-//! Semantic prompts ("Semantic prompts",
+//! This module defines semantic prompts ("Semantic prompts",
 //! <https://gitlab.freedesktop.org/Per_Bothner/specifications/blob/master/proposals/semantic-prompts.md>).
 use crate::click::FinalTermClick;
 use crate::prompt_kind::FinalTermPromptKind;
 use esc_values::Text;
 use std::alloc::{Allocator, Global};
 
-/// A mark that a shell writes between its prompts, the user's input, and the output of commands
+/// A shell writes these marks between its prompts, the user's input, and the output of commands
 /// (FinalTerm; operating system command 133, with a letter after the code).
 #[derive(Drop)]
 #[derive_where(Debug, PartialEq, Eq)]
@@ -14,17 +14,17 @@ pub enum FinalTermSemanticPrompt<A: Allocator = Global> {
     FreshLine,
     /// `A`: as `FreshLine`, and a prompt begins.
     FreshLineAndStartPrompt {
-        /// The name of the application, key `aid`, where it is given.
+        /// The name of the application, key `aid`, if it is given.
         aid: Option<Text<A>>,
-        /// What a click does, key `cl`, where it is given.
+        /// The effect of a click, key `cl`, if it is given.
         cl: Option<FinalTermClick>,
     },
-    /// `N`: the command before ends, where one has begun with the same `aid`; then as
+    /// `N`: the command before ends, if one has begun with the same `aid`; then as
     /// `FreshLineAndStartPrompt`.
     MarkEndOfCommandWithFreshLine {
-        /// The name of the application, key `aid`, where it is given.
+        /// The name of the application, key `aid`, if it is given.
         aid: Option<Text<A>>,
-        /// What a click does, key `cl`, where it is given.
+        /// The effect of a click, key `cl`, if it is given.
         cl: Option<FinalTermClick>,
     },
     /// `P`: a prompt of this kind, key `k`, begins.
@@ -35,14 +35,14 @@ pub enum FinalTermSemanticPrompt<A: Allocator = Global> {
     MarkEndOfPromptAndStartOfInputUntilEndOfLine,
     /// `C`: the input ends, and the output begins.
     MarkEndOfInputAndStartOfOutput {
-        /// The name of the application, key `aid`, where it is given.
+        /// The name of the application, key `aid`, if it is given.
         aid: Option<Text<A>>,
     },
     /// `D`: the command ends.
     CommandStatus {
-        /// With what status; 0 where none is given, or none that is a number of 32 bits.
+        /// Its status; 0 if none is given, or none that is a number of 32 bits.
         status: i32,
-        /// The name of the application, key `aid`, where it is given.
+        /// The name of the application, key `aid`, if it is given.
         aid: Option<Text<A>>,
     },
 }

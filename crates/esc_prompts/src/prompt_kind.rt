@@ -1,4 +1,4 @@
-//! The kinds of prompts.
+//! This module defines the kinds of prompts.
 ghost use Rattle.std.specs.Prelude.{◌≡◌, MatchResult, Some, None};
 ghost use Rattle.esc_values.specs.declared.error.Error.TheVariants.{Invalid};
 ghost use Rattle.esc_prompts.specs.Words.{kind_of, kind_word};
@@ -7,7 +7,7 @@ ghost use Rattle.esc_prompts.specs.declared.prompt_kind.FinalTermPromptKind.TheV
 use esc_values::Error;
 use std::fmt;
 
-/// Which prompt begins (FinalTerm; key `k` of operating system command 133).
+/// The kind says which prompt begins (FinalTerm; key `k` of operating system command 133).
 #[derive(Clone, Copy, Debug, PartialEq, Eq)]
 pub enum FinalTermPromptKind {
     /// `i`: the first prompt, at the left. This is the default.
@@ -20,7 +20,7 @@ pub enum FinalTermPromptKind {
     Secondary,
 }
 
-/// The first prompt, at the left.
+/// Returns the first prompt, at the left.
 impl Default for FinalTermPromptKind {
     ghost is_default = { λ k. k ≡ Initial };
 
@@ -29,8 +29,8 @@ impl Default for FinalTermPromptKind {
     }
 }
 
-/// The value that the word names. The error is `Invalid`, for a word that names none; the text is
-/// compared byte by byte.
+/// Returns the value that the word names. The error is `Invalid`, for a word that names none; the
+/// text is compared byte by byte.
 impl TryFrom<&str> for FinalTermPromptKind {
     type Error = Error;
 
@@ -48,7 +48,7 @@ impl TryFrom<&str> for FinalTermPromptKind {
     }
 }
 
-/// Writes the word. Where it returns `Ok`, all of it was written.
+/// Writes the word. If it returns `Ok`, all of it was written.
 impl fmt::Display for FinalTermPromptKind {
     ghost output = { λ k. Some (kind_word k) };
 

@@ -1,4 +1,4 @@
-//! The texts of semantic prompts.
+//! This module writes semantic prompts.
 ghost use Rattle.std.specs.Prelude.{Some, ◌++◌};
 ghost use Rattle.std.specs.Fmt.{DisplaysOnOk};
 ghost use Rattle.esc_prompts.specs.Prompts.{aid_text, click_text, prompt_text};
@@ -11,11 +11,11 @@ use std::alloc::Allocator;
 use std::fmt;
 use std::fmt::Display;
 
-/// Writes what comes between `ESC ]` and the string terminator: the code 133, the letter, and after
+/// Writes the text between `ESC ]` and the string terminator: the code 133, the letter, and after
 /// it the keys that are there, each after a `;`. A status is written before the keys, and with an
 /// `aid` also as the key `err`.
 ///
-/// Where it returns `Ok`, all of it was written.
+/// If it returns `Ok`, all of it was written.
 impl<A: Allocator> fmt::Display for FinalTermSemanticPrompt<A> {
     ghost output = { λ p. Some (prompt_text p) };
 
@@ -45,7 +45,7 @@ impl<A: Allocator> fmt::Display for FinalTermSemanticPrompt<A> {
     }
 }
 
-// What comes before the keys, and the keys that are there.
+// Writes `before`, and the keys that are there.
 fn write_keys<W: fmt::Write, A: Allocator>(
     before: &str,
     aid: &Option<Text<A>>,
@@ -60,7 +60,7 @@ fn write_keys<W: fmt::Write, A: Allocator>(
     Click(cl).fmt(f)
 }
 
-// The end of a command with this status.
+// Writes the end of a command with this status.
 fn write_status<W: fmt::Write, A: Allocator>(
     status: i32,
     aid: &Option<Text<A>>,
@@ -75,7 +75,7 @@ fn write_status<W: fmt::Write, A: Allocator>(
     }
 }
 
-// The key `aid` and its value, where there is one.
+// This is the key `aid` and its value, if there is one.
 #[derive_where(Clone, Copy)]
 struct Aid<'a, A: Allocator>(&'a Option<Text<A>>);
 
@@ -90,7 +90,7 @@ impl<A: Allocator> Display for Aid<'_, A> {
     }
 }
 
-// The key `cl` and its word, where there is one.
+// This is the key `cl` and its word, if there is one.
 #[derive(Clone, Copy)]
 struct Click(Option<FinalTermClick>);
 

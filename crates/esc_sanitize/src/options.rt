@@ -37,7 +37,8 @@ pub struct FilterOptions<P> {
     /// [`Controls`](esc_filter::Group::Controls), [`Cursor`](esc_filter::Group::Cursor),
     /// [`Erase`](esc_filter::Group::Erase), [`Scroll`](esc_filter::Group::Scroll),
     /// [`Modes`](esc_filter::Group::Modes) and [`Charsets`](esc_filter::Group::Charsets), which the
-    /// screen obeys.
+    /// screen obeys. If it counts and an account is kept, text that passed and stands in no row
+    /// counts as overwritten.
     pub window: Option<Window>,
     /// Whether an account is kept of what became of each byte. It costs time and memory.
     pub audits: bool,

@@ -4,7 +4,7 @@
 ghost use Rattle.std.specs.Prelude.{◌≡◌};
 ghost use Rattle.esc_frame.specs.Classes.{class_of, is_breaker, is_noise, is_c0, is_text, is_put, in_escape, in_csi, in_osc, opens};
 
-/// Whether the byte ends the segment before it: 18, 1A, 1B, 80 to 9F.
+/// Returns whether the byte ends the segment before it: 18, 1A, 1B, 80 to 9F.
 #[tactic(auto, unfolding(esc_frame::specs::Classes::class_of))]
 #[inline(always)]
 pub fn is_breaker(b: u8) -> bool
@@ -13,7 +13,7 @@ pub fn is_breaker(b: u8) -> bool
     matches!(b, 0x18 | 0x1a | 0x1b | 0x80..=0x9f)
 }
 
-/// Whether the byte is passed over in a sequence: any other below 20, and 7F, A0 to FF.
+/// Returns whether the byte is passed over in a sequence: any other below 20, and 7F, A0 to FF.
 #[tactic(auto, unfolding(esc_frame::specs::Classes::class_of))]
 #[inline(always)]
 pub fn is_noise(b: u8) -> bool
@@ -22,7 +22,8 @@ pub fn is_noise(b: u8) -> bool
     !is_breaker(b) && (b < 0x20 || 0x7f <= b)
 }
 
-/// Whether it is a control that is executed also inside a sequence: any below 20 but 18, 1A, 1B.
+/// Returns whether it is a control that is executed also inside a sequence: any below 20 but 18,
+/// 1A, 1B.
 #[tactic(auto, unfolding(esc_frame::specs::Classes::class_of))]
 #[inline(always)]
 pub fn is_c0(b: u8) -> bool
@@ -31,7 +32,7 @@ pub fn is_c0(b: u8) -> bool
     b < 0x20 && !is_breaker(b)
 }
 
-/// Whether an application program command keeps it: 20 to 7F.
+/// Returns whether an application program command keeps it: 20 to 7F.
 #[tactic(auto, unfolding(esc_frame::specs::Classes::class_of))]
 #[inline(always)]
 pub fn is_text(b: u8) -> bool
@@ -40,7 +41,7 @@ pub fn is_text(b: u8) -> bool
     matches!(b, 0x20..=0x7f)
 }
 
-/// Whether a device control string hands it on as data: no breaker, and not 7F.
+/// Returns whether a device control string hands it on as data: no breaker, and not 7F.
 #[tactic(auto, unfolding(esc_frame::specs::Classes::class_of))]
 #[inline(always)]
 pub fn is_put(b: u8) -> bool
@@ -49,7 +50,7 @@ pub fn is_put(b: u8) -> bool
     b != 0x7f && !is_breaker(b)
 }
 
-/// Whether it may come between ESC and the final byte: noise, or 20 to 2F.
+/// Returns whether it may come between ESC and the final byte: noise, or 20 to 2F.
 #[tactic(auto, unfolding(esc_frame::specs::Classes::class_of))]
 #[inline(always)]
 pub fn is_in_escape(b: u8) -> bool
@@ -58,7 +59,7 @@ pub fn is_in_escape(b: u8) -> bool
     !is_breaker(b) && (b < 0x30 || 0x7f <= b)
 }
 
-/// Whether it may come between CSI or DCS and the final byte: noise, or 20 to 3F.
+/// Returns whether it may come between CSI or DCS and the final byte: noise, or 20 to 3F.
 #[tactic(auto, unfolding(esc_frame::specs::Classes::class_of))]
 #[inline(always)]
 pub fn is_in_header(b: u8) -> bool
@@ -67,8 +68,8 @@ pub fn is_in_header(b: u8) -> bool
     !is_breaker(b) && (b < 0x40 || 0x7f <= b)
 }
 
-/// Whether it is a unit by itself in the text of an OSC: no breaker, no BEL, and no byte C2 to F4
-/// that begins a sequence.
+/// Returns whether it is a unit by itself in the text of an OSC: no breaker, no BEL, and no byte C2
+/// to F4 that begins a sequence.
 #[tactic(auto, unfolding(esc_frame::specs::Classes::class_of))]
 #[inline(always)]
 pub fn is_in_text(b: u8) -> bool
@@ -77,7 +78,7 @@ pub fn is_in_text(b: u8) -> bool
     !is_breaker(b) && b != 0x07 && (b < 0xc2 || 0xf4 < b)
 }
 
-/// Whether it is the letter of an opener: `P`, `X`, `[`, `]`, `^`, `_`.
+/// Returns whether it is the letter of an opener: `P`, `X`, `[`, `]`, `^`, `_`.
 #[tactic(auto, unfolding(esc_frame::specs::Classes::class_of))]
 #[inline(always)]
 pub fn is_letter(b: u8) -> bool

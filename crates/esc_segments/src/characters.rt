@@ -11,7 +11,7 @@ use esc_frame::utf8::sequence::{Outcome, Pending};
 // The character in place of bytes that are no character.
 const REPLACEMENT: char = '\u{fffd}';
 
-/// The character of the bytes, which are one of 20 to 7F or a well-formed sequence.
+/// Returns the character of the bytes, which are one of 20 to 7F or a well-formed sequence.
 pub fn character_of(bytes: &[u8]) -> char
     ensures narrow { (b : ℕ) → is_text (class_of b) ≡ true → bytes.now ≡ b ∷ [] → result ≡ b }
     ensures wide { is_sequence bytes.now ≡ true → result ≡ number_of bytes.now }
@@ -29,7 +29,7 @@ pub fn character_of(bytes: &[u8]) -> char
     }
 }
 
-// The character of a prefix of a sequence and its last byte.
+// Returns the character of a prefix of a sequence and its last byte.
 fn completed(prefix: Pending, last: u8) -> char
     ensures { is_sequence (prefix_of prefix ++ last ∷ []) ≡ true
         → result ≡ number_of (prefix_of prefix ++ last ∷ []) }

@@ -1,4 +1,5 @@
-//! The events of escape sequences and control sequences.
+//! The events of escape sequences and control sequences. An error is that the actor refused a call,
+//! or that memory was refused.
 #![tactic(auto)]
 
 ghost use Rattle.std.specs.Prelude.{◌≡◌, ◌∷◌, Bool, List, OnOk, [], ℕ};
@@ -37,7 +38,7 @@ pub fn execute_in<V: VTActor>(bytes: &[u8], actor: &mut V) -> Result<()>
     Ok(())
 }
 
-/// An escape sequence: the controls inside it, and then its dispatch.
+/// Gives an escape sequence: the controls inside it, and then its dispatch.
 pub fn escape<V: VTActor>(bytes: &[u8], actor: &mut V) -> Result<()>
     requires { V.is_ready actor.old }
     ensures emitted { (finished : Bool) (x : List ℕ) (f : ℕ)
@@ -52,7 +53,7 @@ pub fn escape<V: VTActor>(bytes: &[u8], actor: &mut V) -> Result<()>
     dispatch_escape(&bytes[1..last], bytes[last], actor)
 }
 
-// The dispatch of an escape sequence with these intermediates and noise, and this final byte.
+// Dispatches an escape sequence with these intermediates and noise, and this final byte.
 fn dispatch_escape<V: VTActor>(x: &[u8], last: u8, actor: &mut V) -> Result<()>
     requires { V.is_ready actor.old }
     ensures emitted { Takes ⊥ V.takes V.refuses result actor.old
@@ -63,7 +64,7 @@ fn dispatch_escape<V: VTActor>(x: &[u8], last: u8, actor: &mut V) -> Result<()>
     actor.esc_dispatch(&[], kept.as_slice(), kept.ignored, last)
 }
 
-// The bytes but noise.
+// Returns the bytes but noise.
 fn intermediates_of(x: &[u8]) -> Intermediates
     ensures { Keeps result (without_noise x.now) }
 {
@@ -76,7 +77,8 @@ fn intermediates_of(x: &[u8]) -> Intermediates
     kept
 }
 
-/// A control sequence: the controls inside it, and then its dispatch, if its body has its form.
+/// Gives a control sequence: the controls inside it, and then its dispatch, if its body has its
+/// form.
 pub fn csi<V: VTActor>(bytes: &[u8], actor: &mut V) -> Result<()>
     requires { V.is_ready actor.old }
     ensures emitted { (finished : Bool) (o : Opener) (x : List ℕ) (f : ℕ)
@@ -92,7 +94,7 @@ pub fn csi<V: VTActor>(bytes: &[u8], actor: &mut V) -> Result<()>
     dispatch_csi(&body[..last], body[last], actor)
 }
 
-// The dispatch of a control sequence with this body and final byte.
+// Dispatches a control sequence with this body and final byte.
 fn dispatch_csi<V: VTActor>(x: &[u8], last: u8, actor: &mut V) -> Result<()>
     requires { V.is_ready actor.old }
     ensures emitted { Takes ⊥ V.takes V.refuses result actor.old
@@ -103,7 +105,7 @@ fn dispatch_csi<V: VTActor>(x: &[u8], last: u8, actor: &mut V) -> Result<()>
     emit_body(&mut body, last, actor)
 }
 
-// The same for a body that was read.
+// Does the same for a body that was read.
 fn emit_body<V: VTActor>(body: &mut CsiBody, last: u8, actor: &mut V) -> Result<()>
     requires { V.is_ready actor.old }
     ensures emitted { (x : List ℕ) → KeepsBody body.old x
@@ -121,7 +123,7 @@ fn emit_body<V: VTActor>(body: &mut CsiBody, last: u8, actor: &mut V) -> Result<
     )
 }
 
-// The body that the bytes but noise are.
+// Returns the body that the bytes but noise are.
 fn body_of(x: &[u8]) -> CsiBody
     ensures { KeepsBody result (without_noise x.now) }
 {
@@ -134,8 +136,8 @@ fn body_of(x: &[u8]) -> CsiBody
     body
 }
 
-/// A sequence or header that is cut short: the controls inside it, but of a device control string
-/// only those in its opener.
+/// Gives a sequence or header that is cut short: the controls inside it, but of a device control
+/// string only those in its opener.
 pub fn cut_short<V: VTActor>(bytes: &[u8], actor: &mut V) -> Result<()>
     requires { V.is_ready actor.old }
     ensures emitted { (finished : Bool) (g : Segment) → kind_of g ≡ kinds.CutShort

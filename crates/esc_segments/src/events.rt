@@ -53,7 +53,7 @@ pub fn segment_events<A: Allocator + Copy, V: VTActor>(
     }
 }
 
-// A prefix of a character, which prints nothing as long as it may go on.
+// Gives a prefix of a character, which prints nothing as long as it may go on.
 fn broken<V: VTActor>(finished: bool, actor: &mut V) -> Result<(), AllocError>
     requires { V.is_ready actor.old }
     ensures emitted { Takes ⊥ V.takes V.refuses result actor.old
@@ -67,7 +67,7 @@ fn broken<V: VTActor>(finished: bool, actor: &mut V) -> Result<(), AllocError>
     }
 }
 
-// A control, raw or after C2: its last byte.
+// Executes a control, raw or after C2: its last byte.
 fn control<V: VTActor>(bytes: &[u8], actor: &mut V) -> Result<(), AllocError>
     requires { V.is_ready actor.old }
     ensures emitted { (p : Bool) (b : ℕ) → bytes.now ≡ after_c2 p b

@@ -13,7 +13,7 @@ use crate::opened::opened;
 use crate::runs::{escape_run, noise_run};
 use crate::sequence::{Ahead, sequence_ahead};
 
-/// The first segment.
+/// Returns the first segment.
 pub fn first(bytes: &[u8]) -> Found
     requires { 0 < length bytes.now }
     ensures found { IsFirst bytes.now result }
@@ -32,7 +32,7 @@ pub fn first(bytes: &[u8]) -> Found
     }
 }
 
-// The segment that a byte C2 to F4 begins.
+// Returns the segment that a byte C2 to F4 begins.
 fn character(bytes: &[u8]) -> Found
     requires { HasLead 0 0xc2 0xf4 bytes.now }
     ensures found { IsFirst bytes.now result }
@@ -47,7 +47,7 @@ fn character(bytes: &[u8]) -> Found
     }
 }
 
-// The segment that a control of C1 begins, after the control.
+// Returns the segment that a control of C1 begins, after the control.
 fn control(b: u8, body: &[u8]) -> Found
     requires low { 0x80 ≤ b }
     requires high { b ≤ 0x9f }
@@ -63,7 +63,7 @@ fn control(b: u8, body: &[u8]) -> Found
     }
 }
 
-// The segment that ESC begins, after it.
+// Returns the segment that ESC begins, after it.
 fn escape(rest: &[u8]) -> Found
     ensures found { IsFirst (0x1b ∷ rest.now) (found_further 1 result) }
     ensures few { result.len ≤ length rest.now }
@@ -76,7 +76,7 @@ fn escape(rest: &[u8]) -> Found
     }
 }
 
-// An escape sequence that opens nothing.
+// Returns an escape sequence that opens nothing.
 fn escape_sequence(rest: &[u8], noise: usize) -> Found
     requires noise { noise ≡ prefix_len (λ b. is_noise (class_of b)) rest.now }
     requires opens_nothing { noise < length rest.now

@@ -1,4 +1,4 @@
-//! How far a segment goes.
+//! This module says how far a segment goes.
 #![tactic(auto)]
 
 ghost use Rattle.std.specs.Prelude.{◌≡◌, ◌+◌, ◌<◌, ◌^◌, true, false};
@@ -16,7 +16,7 @@ pub struct Found {
 }
 
 impl Found {
-    /// One that is finished after so many bytes.
+    /// Returns one that is finished after so many bytes.
     #[inline(always)]
     pub fn finished(kind: SegmentKind, len: usize) -> Found
         ensures { result ≡ found_at kind len true }
@@ -28,7 +28,7 @@ impl Found {
         }
     }
 
-    /// One that takes all bytes, and may go on.
+    /// Returns one that takes all bytes, and may go on.
     #[inline(always)]
     pub fn unfinished(kind: SegmentKind, len: usize) -> Found
         ensures { result ≡ found_at kind len false }
@@ -40,7 +40,7 @@ impl Found {
         }
     }
 
-    /// The segment with so many bytes more before it.
+    /// Returns the segment with so many bytes more before it.
     #[inline(always)]
     pub fn later(self, count: usize) -> Found
         requires { count + self.len < 2 ^ 64 }

@@ -11,7 +11,7 @@ pub struct Segment<'a> {
     pub kind: SegmentKind,
     /// Its bytes, at their place in the input. They are never empty.
     pub bytes: &'a [u8],
-    /// Whether it is finished: it ends by itself, or the bytes after it in the input end it. All
-    /// but the last segment of the input are finished.
+    /// Says whether it is finished: it ends by itself, or the bytes after it in the input end it.
+    /// All but the last segment of the input are finished.
     pub finished: bool,
 }

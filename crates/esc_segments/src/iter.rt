@@ -18,7 +18,7 @@ pub struct Segments<'a> {
 impl<'a> Segments<'a> {
     ghost use Rattle.esc_segments.specs.Items.{left_bytes};
 
-    /// The segments of the bytes.
+    /// Returns the segments of the bytes.
     pub fn new(bytes: &'a [u8]) -> Self
         ensures { left_bytes result ≡ bytes.now }
     {

@@ -13,8 +13,8 @@ use std::alloc::{AllocError, Allocator};
 // U+FFFD, in UTF-8.
 const REPLACEMENT: [u8; 3] = [0xef, 0xbf, 0xbd];
 
-/// The bytes that are kept of a whole text: its bytes 20 to 7F, its well-formed sequences, and
-/// U+FFFD for each broken one.
+/// Returns the bytes that are kept of a whole text: its bytes 20 to 7F, its well-formed sequences,
+/// and U+FFFD for each broken one.
 pub fn kept_text<A: Allocator>(alloc: A, text: &[u8]) -> Result<Vec<u8, A>, AllocError>
     ensures ok { (ps : List OscUnit) (e : Ending) (after : List ℕ)
         → text.now ≡ text_bytes ps ++ ending_bytes e → AreOscUnits ps (ending_bytes e ++ after)
@@ -47,7 +47,7 @@ fn keep_unit<A: Allocator>(kept: &mut Vec<u8, A>, text: &[u8]) -> Result<usize, 
     }
 }
 
-// The same for a sequence of UTF-8.
+// Does the same for a sequence of UTF-8.
 fn keep_sequence<A: Allocator>(kept: &mut Vec<u8, A>, text: &[u8]) -> Result<usize, AllocError>
     requires { HasLead 0 0xc2 0xf4 text.now }
     ensures kept { (after t : List ℕ) → IsLeft kept.old.items text.now after t

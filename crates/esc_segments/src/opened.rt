@@ -13,7 +13,7 @@ use crate::kind::SegmentKind;
 use crate::runs::{data_run, header_run};
 use crate::text::osc;
 
-/// The segment that this letter opens, after the opener.
+/// Returns the segment that this letter opens, after the opener.
 pub fn opened(letter: u8, body: &[u8]) -> Found
     ensures found { (k : Kind) → letter ≡ letter_of k → IsOpened k body.now result }
     ensures few { result.len ≤ length body.now }
@@ -27,7 +27,7 @@ pub fn opened(letter: u8, body: &[u8]) -> Found
     }
 }
 
-// A control sequence.
+// Returns a control sequence.
 fn csi(body: &[u8]) -> Found
     ensures found { IsOpened kind.Csi body.now result }
     ensures few { result.len ≤ length body.now }
@@ -42,7 +42,7 @@ fn csi(body: &[u8]) -> Found
     }
 }
 
-// A device control string.
+// Returns a device control string.
 fn dcs(body: &[u8]) -> Found
     ensures found { IsOpened kind.Dcs body.now result }
     ensures few { result.len ≤ length body.now }
@@ -62,7 +62,7 @@ fn dcs(body: &[u8]) -> Found
     }
 }
 
-// An application program command.
+// Returns an application program command.
 fn apc(body: &[u8]) -> Found
     ensures found { IsOpened kind.Apc body.now result }
     ensures few { result.len ≤ length body.now }
@@ -75,7 +75,7 @@ fn apc(body: &[u8]) -> Found
     }
 }
 
-// A start of string or a privacy message.
+// Returns a start of string or a privacy message.
 fn ignored(body: &[u8]) -> Found
     ensures found { (k : Kind) → is_ignored k ≡ true → IsOpened k body.now result }
     ensures few { result.len ≤ length body.now }

@@ -9,7 +9,7 @@ ghost use Rattle.esc_frame.specs.declared.classes.Kind.TheVariants as kind;
 
 use crate::runs::noise_run;
 
-// The length of the opener that the bytes begin with.
+// Returns the length of the opener that the bytes begin with.
 fn opener_len(bytes: &[u8]) -> usize
     ensures len { (k : Kind) (o : Opener) (body : List ℕ) → IsOpener o
         → bytes.now ≡ opener k o ++ body → result ≡ length (opener k o) }
@@ -25,7 +25,7 @@ fn opener_len(bytes: &[u8]) -> usize
     }
 }
 
-// The same for an opener that ESC begins: up to the letter after noise.
+// Does the same for an opener that ESC begins: up to the letter after noise.
 fn escape_opener_len(bytes: &[u8]) -> usize
     requires { 0 < length bytes.now }
     ensures len { (n body : List ℕ) (letter : ℕ) → AllOf is_noise n
@@ -49,7 +49,8 @@ pub fn split_opener(bytes: &[u8]) -> (&[u8], &[u8])
     bytes.split_at(opener_len(bytes))
 }
 
-/// Whether the bytes begin with the opener of a device control string: `ESC P`, 90 or C2 90.
+/// Returns whether the bytes begin with the opener of a device control string: `ESC P`, 90 or C2
+/// 90.
 pub fn opens_dcs(bytes: &[u8]) -> bool
     ensures dcs { (o : Opener) (body : List ℕ) → IsOpener o → bytes.now ≡ opener kind.Dcs o ++ body
         → result ≡ true }

@@ -1,4 +1,4 @@
-//! How far a run of bytes goes.
+//! This module says how far a run of bytes goes.
 #![tactic(auto)]
 
 ghost use Rattle.std.specs.Prelude.{◌≡◌, ◌≤◌, length};
@@ -7,7 +7,7 @@ ghost use Rattle.esc_frame.specs.Classes.{class_of, is_noise, in_escape, in_csi,
 
 use crate::bytes::{is_breaker, is_in_escape, is_in_header, is_in_text, is_noise};
 
-/// The length of the longest prefix of noise.
+/// Returns the length of the longest prefix of noise.
 #[tactic(auto, using(crate::proofs::Prefixes::runs))]
 pub fn noise_run(bytes: &[u8]) -> usize
     ensures run { result ≡ prefix_len (λ b. is_noise (class_of b)) bytes.now }
@@ -20,7 +20,7 @@ pub fn noise_run(bytes: &[u8]) -> usize
     end
 }
 
-/// The length of the longest prefix of noise and intermediates of an escape sequence.
+/// Returns the length of the longest prefix of noise and intermediates of an escape sequence.
 #[tactic(auto, using(crate::proofs::Prefixes::runs))]
 pub fn escape_run(bytes: &[u8]) -> usize
     ensures run { result ≡ prefix_len (λ b. in_escape (class_of b)) bytes.now }
@@ -33,7 +33,7 @@ pub fn escape_run(bytes: &[u8]) -> usize
     end
 }
 
-/// The length of the longest prefix of noise, parameters and intermediates.
+/// Returns the length of the longest prefix of noise, parameters and intermediates.
 #[tactic(auto, using(crate::proofs::Prefixes::runs))]
 pub fn header_run(bytes: &[u8]) -> usize
     ensures run { result ≡ prefix_len (λ b. in_csi (class_of b)) bytes.now }
@@ -46,7 +46,7 @@ pub fn header_run(bytes: &[u8]) -> usize
     end
 }
 
-/// The length of the longest prefix of units of one byte of an OSC's text.
+/// Returns the length of the longest prefix of units of one byte of an OSC's text.
 #[tactic(auto, using(crate::proofs::Prefixes::runs))]
 pub fn text_run(bytes: &[u8]) -> usize
     ensures run { result ≡ prefix_len (λ b. in_osc (class_of b)) bytes.now }
@@ -59,7 +59,7 @@ pub fn text_run(bytes: &[u8]) -> usize
     end
 }
 
-/// The length of the longest prefix without a breaker.
+/// Returns the length of the longest prefix without a breaker.
 #[tactic(auto, using(crate::proofs::Prefixes::runs))]
 pub fn data_run(bytes: &[u8]) -> usize
     ensures run { result ≡ prefix_len (λ b. in_data (class_of b)) bytes.now }

@@ -42,7 +42,7 @@ fn is_second(a: u8, b: u8) -> bool
     }
 }
 
-/// The sequence that comes first.
+/// Returns the sequence that comes first.
 pub fn sequence_ahead(bytes: &[u8]) -> Ahead
     requires { HasLead 0 0xc2 0xf4 bytes.now }
     ensures { IsSequence bytes.now result }
@@ -58,7 +58,7 @@ pub fn sequence_ahead(bytes: &[u8]) -> Ahead
     }
 }
 
-// One of two bytes.
+// Returns one of two bytes.
 fn of_two(bytes: &[u8]) -> Ahead
     requires { HasLead 1 0xc2 0xdf bytes.now }
     ensures { IsSequence bytes.now result }
@@ -74,7 +74,7 @@ fn of_two(bytes: &[u8]) -> Ahead
     }
 }
 
-// One of three or four bytes, after its second.
+// Returns one of three or four bytes, after its second.
 fn of_three(bytes: &[u8]) -> Ahead
     requires lead { HasLead 1 0xe0 0xf4 bytes.now }
     requires second { is_second (slice_index bytes.now 0) (slice_index bytes.now 1) ≡ true }
@@ -91,7 +91,7 @@ fn of_three(bytes: &[u8]) -> Ahead
     }
 }
 
-// One of four bytes, after its third.
+// Returns one of four bytes, after its third.
 fn of_four(bytes: &[u8]) -> Ahead
     requires lead { HasLead 2 0xf0 0xf4 bytes.now }
     requires second { is_second (slice_index bytes.now 0) (slice_index bytes.now 1) ≡ true }

@@ -1,4 +1,4 @@
-//! The events of strings.
+//! The events of strings. An error is that the actor refused a call, or that memory was refused.
 #![tactic(auto)]
 
 ghost use Rattle.std.specs.Prelude.{◌≡◌, ◌++◌, ◌∷◌, IfOk, List, OnErr, OnOk, [], if◌then◌else◌, map, pos, ℕ};
@@ -24,8 +24,8 @@ use std::alloc::{AllocError, Allocator};
 
 type Result<T> = std::result::Result<T, AllocError>;
 
-/// An operating system command: the controls in its opener, and once it is finished the dispatch of
-/// its parts.
+/// Gives an operating system command: the controls in its opener, and once it is finished the
+/// dispatch of its parts.
 pub fn osc<A: Allocator + Copy, V: VTActor>(
     alloc: A,
     bytes: &[u8],
@@ -47,8 +47,8 @@ pub fn osc<A: Allocator + Copy, V: VTActor>(
     actor.osc_text(alloc, &kept)
 }
 
-/// An application program command: the controls in its opener, and once it is finished the dispatch
-/// of its bytes 20 to 7F.
+/// Gives an application program command: the controls in its opener, and once it is finished the
+/// dispatch of its bytes 20 to 7F.
 pub fn apc<A: Allocator, V: VTActor>(
     alloc: A,
     bytes: &[u8],
@@ -70,7 +70,7 @@ pub fn apc<A: Allocator, V: VTActor>(
     }
 }
 
-// The dispatch of the bytes 20 to 7F.
+// Dispatches the bytes 20 to 7F.
 fn dispatch_apc<A: Allocator, V: VTActor>(alloc: A, content: &[u8], actor: &mut V) -> Result<()>
     requires { V.is_ready actor.old }
     ensures emitted { Takes (Refused A) V.takes V.refuses result actor.old
@@ -81,7 +81,7 @@ fn dispatch_apc<A: Allocator, V: VTActor>(alloc: A, content: &[u8], actor: &mut 
     actor.apc_dispatch(&text)
 }
 
-// The bytes 20 to 7F.
+// Returns the bytes 20 to 7F.
 fn text_of<A: Allocator>(alloc: A, content: &[u8]) -> Result<Vec<u8, A>>
     ensures ok { IfOk result (λ v. v.items ≡ bytes_of_class is_text content.now) }
     ensures refused { OnErr result (Refused A) }
@@ -89,8 +89,8 @@ fn text_of<A: Allocator>(alloc: A, content: &[u8]) -> Result<Vec<u8, A>>
     fallible_alloc::collect(alloc, content.iter().copied().filter(|b| is_text(*b)))
 }
 
-/// A device control string: the controls in its opener, and if its header has its form the hook,
-/// its data byte by byte, and once it is finished the unhook.
+/// Gives a device control string: the controls in its opener, and if its header has its form the
+/// hook, its data byte by byte, and once it is finished the unhook.
 pub fn dcs<A: Allocator + Copy, V: VTActor>(
     alloc: A,
     bytes: &[u8],
@@ -119,7 +119,7 @@ pub fn dcs<A: Allocator + Copy, V: VTActor>(
     )
 }
 
-// The hook, the data and the unhook of a string with this header, final byte and data.
+// Gives the hook, the data and the unhook of a string with this header, final byte and data.
 fn emit_dcs<A: Allocator + Copy, V: VTActor>(
     alloc: A,
     x: &[u8],
@@ -143,7 +143,7 @@ fn emit_dcs<A: Allocator + Copy, V: VTActor>(
     put_and_end(content, finished, actor)
 }
 
-// The bytes without noise, as a header.
+// Returns the bytes without noise, as a header.
 fn header_of(x: &[u8]) -> DcsHeader
     ensures { KeepsDcs result (without_noise x.now) }
 {
@@ -156,7 +156,7 @@ fn header_of(x: &[u8]) -> DcsHeader
     header
 }
 
-// The hook of a header of its form.
+// Gives the hook of a header of its form.
 fn hook<A: Allocator + Copy, V: VTActor>(
     alloc: A,
     header: &DcsHeader,
@@ -175,7 +175,7 @@ fn hook<A: Allocator + Copy, V: VTActor>(
     actor.dcs_hook(last, &params, kept.as_slice(), kept.ignored)
 }
 
-// The parameters that the bytes write.
+// Returns the parameters that the bytes write.
 fn params_in<A: Allocator + Copy>(alloc: A, x: &[u8]) -> Result<Vec<i64, A>>
     ensures ok { IfOk result (λ v. v.items ≡ map (λ p. pos (capped_at_i64 (value_after 0 p)))
         (parts_of (parameters_of (without_noise x.now)))) }
@@ -185,7 +185,7 @@ fn params_in<A: Allocator + Copy>(alloc: A, x: &[u8]) -> Result<Vec<i64, A>>
     params_of(alloc, &bytes)
 }
 
-// The bytes 30 to 39 and 3B.
+// Returns the bytes 30 to 39 and 3B.
 fn parameter_bytes<A: Allocator>(alloc: A, x: &[u8]) -> Result<Vec<u8, A>>
     ensures ok { IfOk result (λ v. v.items ≡ parameters_of x.now) }
     ensures refused { OnErr result (Refused A) }
@@ -193,7 +193,7 @@ fn parameter_bytes<A: Allocator>(alloc: A, x: &[u8]) -> Result<Vec<u8, A>>
     fallible_alloc::collect(alloc, x.iter().copied().filter(|b| is_parameter(*b)))
 }
 
-// The data, and the unhook.
+// Gives the data, and the unhook.
 fn put_and_end<V: VTActor>(content: &[u8], finished: bool, actor: &mut V) -> Result<()>
     requires { V.is_ready actor.old }
     ensures emitted { Takes ⊥ V.takes V.refuses result actor.old
@@ -204,7 +204,7 @@ fn put_and_end<V: VTActor>(content: &[u8], finished: bool, actor: &mut V) -> Res
     if finished { actor.dcs_unhook() } else { Ok(()) }
 }
 
-// The data, byte by byte.
+// Gives the data, byte by byte.
 fn put_all<V: VTActor>(content: &[u8], actor: &mut V) -> Result<()>
     requires { V.is_ready actor.old }
     ensures emitted { Takes ⊥ V.takes V.refuses result actor.old (puts content.now) actor.new }

@@ -24,7 +24,7 @@ pub enum Unit {
     Pending,
 }
 
-// The units that come first.
+// Returns the units that come first.
 fn unit_ahead(text: &[u8]) -> Unit
     requires { 0 < length text.now }
     ensures { IsUnit text.now result }
@@ -41,7 +41,7 @@ fn unit_ahead(text: &[u8]) -> Unit
     }
 }
 
-// The sequence that comes first.
+// Returns the sequence that comes first.
 fn sequence_unit(text: &[u8]) -> Unit
     requires { HasLead 0 0xc2 0xf4 text.now }
     ensures { IsUnit text.now result }
@@ -54,7 +54,7 @@ fn sequence_unit(text: &[u8]) -> Unit
     }
 }
 
-/// An operating system command, after its opener.
+/// Returns an operating system command, after its opener.
 pub fn osc(text: &[u8]) -> Found
     ensures found { IsOpened kind.Osc text.now result }
     ensures few { result.len ≤ length text.now }

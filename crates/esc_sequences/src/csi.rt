@@ -27,9 +27,9 @@ pub enum CSI<A: Allocator = Global> {
     Unspecified(Boxed<Unspecified<A>, A>),
 }
 
-/// Whether [`parse`](CSI::parse) returns for these parameters one `Unspecified` of them, which
-/// needs no value to be written: a [`BorrowedSequence`](crate::BorrowedSequence) is written as it
-/// is.
+/// Returns whether [`parse`](CSI::parse) returns for these parameters one `Unspecified` of them,
+/// which needs no value to be written: a [`BorrowedSequence`](crate::BorrowedSequence) is written
+/// as it is.
 pub fn is_unspecified(params: &[CsiParam], parameters_truncated: bool, control: u8) -> bool
     ensures { IsTrue result
         → csi_of params.now parameters_truncated control
@@ -38,8 +38,8 @@ pub fn is_unspecified(params: &[CsiParam], parameters_truncated: bool, control: 
     control != b'm' || parameters_truncated || !are_renditions(params)
 }
 
-/// The rendition that [`parse`](CSI::parse) returns, if the body is one number or nothing and this
-/// names one. It takes no memory. `None` says nothing about the sequence.
+/// Returns the rendition that [`parse`](CSI::parse) returns, if the body is one number or nothing
+/// and this names one. It takes no memory. `None` says nothing about the sequence.
 #[inline]
 pub fn short_rendition(params: &[CsiParam], parameters_truncated: bool, control: u8) -> Option<Sgr>
     ensures { IfSome result (λ s. csi_of params.now parameters_truncated control ≡ sgr s ∷ []) }
@@ -50,7 +50,7 @@ pub fn short_rendition(params: &[CsiParam], parameters_truncated: bool, control:
     lone_param(params)
 }
 
-// The rendition of at most one parameter.
+// Returns the rendition of at most one parameter.
 #[inline]
 fn lone_param(params: &[CsiParam]) -> Option<Sgr>
     ensures { IfSome result (λ s. renditions (slice_split is_separator params.now)
@@ -63,9 +63,9 @@ fn lone_param(params: &[CsiParam]) -> Option<Sgr>
 }
 
 impl<A: Allocator + Copy> CSI<A> {
-    /// The values of the parameters of a body and of a final byte. If the final byte is `m`, no
-    /// parameter was left out, and the parameters are items between `;` that are all renditions,
-    /// these renditions, in order; no parameter is one empty item. Anything else is one
+    /// Returns the values of the parameters of a body and of a final byte. If the final byte is
+    /// `m`, no parameter was left out, and the parameters are items between `;` that are all
+    /// renditions, these renditions, in order; no parameter is one empty item. Anything else is one
     /// `Unspecified` of the same parameters. The error is that memory was refused.
     ///
     /// Renditions are: nothing and 0, reset; 1 bold, 2 faint, 22 neither; 3 slanted, 23 not; 4
@@ -94,8 +94,9 @@ impl<A: Allocator + Copy> CSI<A> {
         Ok(read)
     }
 
-    /// The value that [`parse`](CSI::parse) returns, if it is one, with no list made for it; `None`
-    /// if there are several. The error is that memory was refused, which renditions do not want.
+    /// Returns the value that [`parse`](CSI::parse) returns, if it is one, with no list made for
+    /// it; `None` if there are several. The error is that memory was refused, which renditions do
+    /// not want.
     #[inline]
     pub fn parse_one(
         alloc: A,
@@ -119,8 +120,8 @@ impl<A: Allocator + Copy> CSI<A> {
     }
 }
 
-/// The sequence of these parameters and this final byte as it is, without a look for renditions.
-/// The error is that memory was refused.
+/// Returns the sequence of these parameters and this final byte as it is, without a look for
+/// renditions. The error is that memory was refused.
 #[inline]
 pub fn as_it_came<A: Allocator + Copy>(
     alloc: A,
@@ -140,7 +141,7 @@ pub fn as_it_came<A: Allocator + Copy>(
     Ok(CSI::Unspecified(Boxed::new(alloc, kept)?))
 }
 
-// The rendition, if there is one item.
+// Returns the rendition, if there is one item.
 fn lone_rendition(params: &[CsiParam]) -> Option<Sgr>
     ensures one { IfSome result (λ s. renditions (slice_split is_separator params.now)
         ≡ Some (sgr s ∷ [])) }
@@ -155,7 +156,7 @@ fn lone_rendition(params: &[CsiParam]) -> Option<Sgr>
     }
 }
 
-// Whether each item is a rendition.
+// Returns whether each item is a rendition.
 fn are_renditions(params: &[CsiParam]) -> bool
     ensures { result ≡ is_some (renditions (slice_split is_separator params.now)) }
 {
@@ -172,7 +173,7 @@ fn are_renditions(params: &[CsiParam]) -> bool
     }
 }
 
-// The renditions of the items between `;`, if each item is one.
+// Returns the renditions of the items between `;`, if each item is one.
 fn read_renditions<A: Allocator + Copy>(
     alloc: A,
     params: &[CsiParam],
@@ -196,7 +197,7 @@ fn read_renditions<A: Allocator + Copy>(
     }
 }
 
-// How many parameters the first item has.
+// Returns how many parameters the first item has.
 fn item_len(params: &[CsiParam]) -> usize
     ensures first { result ≡ position_or_len is_separator params.now }
     ensures few { result ≤ length params.now }
@@ -208,7 +209,7 @@ fn item_len(params: &[CsiParam]) -> usize
     len
 }
 
-// The parameters after an item of this many parameters and the `;` that ends it.
+// Returns the parameters after an item of this many parameters and the `;` that ends it.
 fn after_item(params: &[CsiParam], len: usize) -> &[CsiParam]
     requires { len < length params.now }
     ensures { result.now ≡ drop (len + 1) params.now }
@@ -216,7 +217,7 @@ fn after_item(params: &[CsiParam], len: usize) -> &[CsiParam]
     &params[len + 1..]
 }
 
-// Whether it separates items.
+// Returns whether it separates items.
 fn is_separator(param: &CsiParam) -> bool
     ensures { result ≡ is_separator param.now }
 {

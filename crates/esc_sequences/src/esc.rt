@@ -21,7 +21,8 @@ pub enum Esc {
 }
 
 impl Esc {
-    /// The escape sequence of an intermediate and a final byte. With no intermediate `\`, `H` and
+    /// Returns the escape sequence of an intermediate and a final byte. With no intermediate `\`,
+    /// `H` and
     /// `k` have names; everything else is `Unspecified` of the same bytes.
     pub fn parse(intermediate: Option<u8>, control: u8) -> Esc
         ensures { result ≡ esc_of intermediate control }

@@ -1,6 +1,6 @@
-//! How bright characters are shown.
+//! This module says how bright characters are shown.
 
-/// How bright characters are shown (ECMA-48, 8.3.117, SGR: parameters 1, 2 and 22).
+/// Says how bright characters are shown (ECMA-48, 8.3.117, SGR: parameters 1, 2 and 22).
 #[derive(Clone, Copy, Debug, PartialEq, Eq)]
 pub enum Intensity {
     /// SGR 22: neither bold nor faint.

@@ -8,8 +8,8 @@ use crate::underline::Underline;
 use esc_values::CsiParam;
 use std::fmt;
 
-/// How characters are shown from here on: one item of the control function Select Graphic Rendition
-/// (ECMA-48, 8.3.117), which has the final byte `m`.
+/// Says how characters are shown from here on: one item of the control function Select Graphic
+/// Rendition (ECMA-48, 8.3.117), which has the final byte `m`.
 #[derive(Clone, Copy, Debug, PartialEq, Eq)]
 pub enum Sgr {
     /// 0, or nothing: each rendition as at first.
@@ -23,7 +23,7 @@ pub enum Sgr {
 }
 
 impl Sgr {
-    // The rendition of an item: the parameters between two `;`.
+    // Returns the rendition of an item: the parameters between two `;`.
     #[inline]
     pub(crate) fn from_item(item: &[CsiParam]) -> Option<Sgr>
         ensures { result ≡ rendition item.now }
@@ -48,7 +48,7 @@ impl Sgr {
     }
 }
 
-// The rendition of an item that is one number.
+// Returns the rendition of an item that is one number.
 #[inline]
 fn by_number(number: i64) -> Option<Sgr>
     ensures { result ≡ sgr_at number }
@@ -67,7 +67,7 @@ fn by_number(number: i64) -> Option<Sgr>
     }
 }
 
-// The rendition of this parameter after `4:`.
+// Returns the rendition of this parameter after `4:`.
 fn underline_of(kind: CsiParam) -> Option<Sgr>
     ensures { result ≡ underline_sgr kind }
 {
@@ -92,7 +92,7 @@ impl fmt::Display for Sgr {
     }
 }
 
-// The control sequence that selects it.
+// Returns the control sequence that selects it.
 fn sequence(rendition: Sgr) -> &'static str
     ensures { result.now ≡ sgr_text rendition }
 {

@@ -1,7 +1,7 @@
-//! How characters are underlined.
+//! This module says how characters are underlined.
 
-/// How characters are underlined (ECMA-48, 8.3.117, SGR: parameters 4, 21 and 24; the kinds after
-/// `4:` as xterm and kitty read them, <https://sw.kovidgoyal.net/kitty/underlines/>).
+/// Says how characters are underlined (ECMA-48, 8.3.117, SGR: parameters 4, 21 and 24; the kinds
+/// after `4:` as xterm and kitty read them, <https://sw.kovidgoyal.net/kitty/underlines/>).
 #[derive(Clone, Copy, Debug, PartialEq, Eq)]
 pub enum Underline {
     /// SGR 24 or `4:0`: no line.

@@ -16,7 +16,7 @@ use std::fmt::Display;
 pub struct Unspecified<A: Allocator = Global> {
     /// The parameters of its body.
     pub params: Items<CsiParam, A>,
-    /// Whether the body has more parameters, which are not kept.
+    /// Says whether the body has more parameters, which are not kept.
     pub parameters_truncated: bool,
     /// The final byte, 40 to 7E (hexadecimal).
     pub control: u8,
@@ -43,7 +43,7 @@ impl<A: Allocator> fmt::Display for Unspecified<A> {
 pub struct BorrowedSequence<'a> {
     /// The parameters of its body.
     pub params: &'a [CsiParam],
-    /// Whether the body has more parameters, which are not kept.
+    /// Says whether the body has more parameters, which are not kept.
     pub parameters_truncated: bool,
     /// The final byte, 40 to 7E (hexadecimal).
     pub control: u8,
@@ -61,7 +61,7 @@ impl<'a> fmt::Display for BorrowedSequence<'a> {
     }
 }
 
-// The parameters, one after another.
+// Writes the parameters, one after another.
 fn write_csi_params<W: fmt::Write>(params: &[CsiParam], f: &mut fmt::Formatter<W>) -> fmt::Result
     ensures { DisplaysOnOk W.write_str_gives f.old result
         (Some (csi_params_text params.now)) f.new }
@@ -72,7 +72,7 @@ fn write_csi_params<W: fmt::Write>(params: &[CsiParam], f: &mut fmt::Formatter<W
     Ok(())
 }
 
-// A parameter, as its decimal number or its character.
+// Writes a parameter, as its decimal number or its character.
 fn write_param<W: fmt::Write>(param: CsiParam, f: &mut fmt::Formatter<W>) -> fmt::Result
     ensures { DisplaysOnOk W.write_str_gives f.old result (Some (param_text param)) f.new }
 {

@@ -1,4 +1,4 @@
-//! Whether two looks are the same.
+//! This module says whether two looks are the same.
 ghost use Rattle.std.specs.Prelude.{◌≡◌, IsTrue};
 ghost use Rattle.esc_style.specs.Looks.{plain_look};
 ghost use Rattle.esc_sgr.specs.Sgr.{is_default, is_direct, is_entry, is_named, same_color, same_flags, same_look, underline_code};
@@ -7,7 +7,7 @@ use esc_sequences::Underline;
 use esc_style::{Color, Look};
 use esc_values::RgbColor;
 
-/// Whether it is the look of the beginning.
+/// Returns whether it is the look of the beginning.
 #[inline]
 pub fn is_first(look: &Look) -> bool
     ensures { IsTrue result → look.now ≡ plain_look }
@@ -15,7 +15,7 @@ pub fn is_first(look: &Look) -> bool
     is_same(&Look::plain(), look)
 }
 
-/// Whether two looks are the same.
+/// Returns whether two looks are the same.
 #[inline]
 pub fn is_same(a: &Look, b: &Look) -> bool
     ensures { result ≡ same_look a.now b.now }

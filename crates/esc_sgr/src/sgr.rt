@@ -10,7 +10,8 @@ use esc_style::{Color, Look};
 use esc_values::RgbColor;
 use std::alloc::{AllocError, Allocator};
 
-/// Appends the text that makes a look when another holds: nothing, if they are the same.
+/// Appends the text that makes a look when another holds: nothing, if they are the same. The error
+/// is that memory was refused.
 #[inline]
 pub fn push_change<A: Allocator>(
     text: &mut String<A>,
@@ -53,7 +54,7 @@ fn push_flags<A: Allocator>(text: &mut String<A>, look: &Look) -> Result<(), All
     }
 }
 
-// Whether one of its flags is on.
+// Returns whether one of its flags is on.
 fn has_flags(look: &Look) -> bool
     ensures { result ≡ false → flags_text look.now ≡ [] }
 {
@@ -186,7 +187,7 @@ fn push_number<A: Allocator>(text: &mut String<A>, number: u8) -> Result<(), All
     }
 }
 
-// The number of a colour that has a name.
+// Returns the number of a colour that has a name.
 fn named_number(base: u8, index: u8) -> u8
     requires base { base ≤ 40 }
     requires index { index < 16 }

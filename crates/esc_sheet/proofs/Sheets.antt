@@ -40,7 +40,7 @@ pub sheet_number : {U E : Type 0} (r : Result U E) (s t : List ℕ) (n : ℕ) �
 sheet_number (Ok u) s t n h ok err = sheet_push true s t (Number n) refl h ok
 sheet_number (Err e) s t n h ok err = sheet_cleared t err
 
--- the same of what changes one look into another
+-- the same holds of the sequences that change one look into another
 pub sheet_change : {U E : Type 0} (r : Result U E) (s t : List ℕ) (a b : Look) → ∥ IsSheet s ∥₁
     → OnOk r (t ≡ s ++ change_text a b) → OnErr r (t ≡ []) → ∥ IsSheet t ∥₁
 sheet_change (Ok u) s t a b h ok err = change (same_look a b) ok
@@ -50,7 +50,7 @@ sheet_change (Ok u) s t a b h ok err = change (same_look a b) ok
     change false f = sheet_push true s t (Change b) refl h f
 sheet_change (Err e) s t a b h ok err = sheet_cleared t err
 
--- and of what begins a link
+-- the same holds of the beginning of a link
 pub sheet_lead : {U E : Type 0} (r : Result U E) (s t : List ℕ) (i : Option (List ℕ)) (a : List ℕ)
     → is_fit (Lead i a) ≡ true → ∥ IsSheet s ∥₁ → OnOk r (t ≡ s ++ lead_text i a)
     → OnErr r (t ≡ []) → ∥ IsSheet t ∥₁

@@ -30,7 +30,8 @@ abbrev pub id_text : Option (List ℕ) → List ℕ
 id_text None = []
 id_text (Some i) = codes "id=" ++ i
 
--- what begins a link with an id, or without one, and an address; with neither, it ends one (OSC 8)
+-- the beginning of a link with an id, or without one, and an address; with neither, the end of
+-- one (OSC 8)
 abbrev pub lead_text : Option (List ℕ) → List ℕ → List ℕ
 lead_text i a = 0x1b ∷ codes "]8;" ++ (id_text i ++ (0x3b ∷ a ++ 0x1b ∷ 0x5c ∷ []))
 

@@ -1,4 +1,4 @@
-//! In which cells two screens differ.
+//! This module says in which cells two screens differ. An error is that memory was refused.
 
 use crate::rows::push_content;
 use crate::sheet::Sheet;
@@ -8,8 +8,8 @@ use esc_screen::{Cell, Content, Marks, Screen};
 use esc_sgr::is_same;
 use std::alloc::AllocError;
 
-/// Adds a line for each run of cells in a row that differ, as
-/// `row 1, columns 3 to 4: "ab" and "cd"`; nothing, where the same is seen of two screens.
+/// Adds a line for each run of cells in a row that differ, as `row 1, columns 3 to 4: "ab" and
+/// "cd"`; nothing, if two screens show the same.
 pub fn push_differences(
     sheet: &mut Sheet,
     one: View<'_>,
@@ -61,7 +61,7 @@ fn push_row(
     push_run(sheet, row, cells, count, width)
 }
 
-// Whether the same is seen at a column.
+// Returns whether the same is seen at a column.
 fn is_same_at(cells: (&[Cell], &[Cell]), views: (View<'_>, View<'_>), at: usize) -> bool {
     match (cells.0.get(at), cells.1.get(at)) {
         (Some(one), Some(other)) => {
@@ -73,7 +73,7 @@ fn is_same_at(cells: (&[Cell], &[Cell]), views: (View<'_>, View<'_>), at: usize)
     }
 }
 
-// Whether two links are the same.
+// Returns whether two links are the same.
 fn is_same_link(one: Option<&Hyperlink>, other: Option<&Hyperlink>) -> bool {
     match (one, other) {
         (Some(one), Some(other)) => one.uri == other.uri && one.params == other.params,
@@ -82,7 +82,7 @@ fn is_same_link(one: Option<&Hyperlink>, other: Option<&Hyperlink>) -> bool {
     }
 }
 
-// Adds the line of so many cells before a column, where there are any.
+// Adds the line of so many cells before a column, if there are any.
 fn push_run(
     sheet: &mut Sheet,
     row: u64,
@@ -109,7 +109,7 @@ fn push_run(
     sheet.end_line()
 }
 
-// The cells from one column to before another.
+// Returns the cells from one column to before another.
 fn part(cells: &[Cell], from: usize, to: usize) -> &[Cell] {
     cells.get(from..to).unwrap_or(&[])
 }
@@ -138,7 +138,7 @@ fn push_quoted(sheet: &mut Sheet, cells: &[Cell]) -> Result<(), AllocError> {
     sheet.push_text("\"")
 }
 
-// Whether cells have the same contents.
+// Returns whether cells have the same contents.
 fn have_same_contents(cells: &[Cell], others: &[Cell]) -> bool {
     for (one, other) in cells.iter().zip(others) {
         if !is_same_content(one.content, other.content) {
@@ -148,7 +148,7 @@ fn have_same_contents(cells: &[Cell], others: &[Cell]) -> bool {
     true
 }
 
-// Whether the same is seen of two contents: a space is as a cell that is blank.
+// Returns whether the same is seen of two contents: a space is as a cell that is blank.
 fn is_same_content(one: Content, other: Content) -> bool {
     match (one, other) {
         (Content::Rest, Content::Rest) => true,
@@ -164,7 +164,7 @@ fn is_same_content(one: Content, other: Content) -> bool {
     }
 }
 
-// Whether nothing is seen of a character.
+// Returns whether nothing is seen of a character.
 fn is_space(c: char, marks: Marks) -> bool {
     c == ' ' && are_same(marks, Marks::none())
 }

@@ -1,4 +1,4 @@
-//! A screen as an object of JSON (RFC 8259).
+//! A screen as an object of JSON (RFC 8259). An error is that memory was refused.
 
 use crate::sheet::Sheet;
 use crate::view::View;
@@ -76,7 +76,7 @@ fn push_flag(sheet: &mut Sheet, name: &str, is_on: bool) -> Result<(), AllocErro
     sheet.push_text(if is_on { "true" } else { "false" })
 }
 
-// Adds the links, where there are any, in the order of their numbers.
+// Adds the links, if there are any, in the order of their numbers.
 fn push_links(sheet: &mut Sheet, links: &[Hyperlink]) -> Result<(), AllocError> {
     if links.is_empty() {
         return Ok(());
@@ -97,7 +97,7 @@ fn push_links(sheet: &mut Sheet, links: &[Hyperlink]) -> Result<(), AllocError> 
     sheet.push_text("]")
 }
 
-// Adds the cells of a row of which something is seen.
+// Adds the cells of a row that show something.
 fn push_row(sheet: &mut Sheet, cells: &[Cell], view: View<'_>) -> Result<(), AllocError> {
     sheet.push_text("[")?;
     let mut comma = "";
@@ -217,7 +217,7 @@ fn push_color(sheet: &mut Sheet, member: &str, color: Color) -> Result<(), Alloc
     }
 }
 
-// The name of a colour.
+// Returns the name of a colour.
 fn name_of(color: AnsiColor) -> &'static str {
     match NAMES.get(color.index() as usize) {
         Some(name) => *name,
@@ -259,7 +259,7 @@ fn push_hex(sheet: &mut Sheet, byte: u8) -> Result<(), AllocError> {
     sheet.push(digit(byte % 16))
 }
 
-// The hexadecimal digit of a number below 16.
+// Returns the hexadecimal digit of a number below 16.
 fn digit(number: u8) -> char {
     match char::from_digit(u32::from(number), 16) {
         Some(digit) => digit,

@@ -1,4 +1,4 @@
-//! What begins a link, or ends one.
+//! This module begins a link, or ends one.
 ghost use Rattle.std.specs.Prelude.{◌≡◌, ◌++◌, [], OnErr, OnOk, string_bytes};
 ghost use Rattle.std.specs.List.{list_all};
 ghost use Rattle.std.specs.Option.{option_map};
@@ -8,7 +8,7 @@ ghost use Rattle.esc_sheet.specs.Sheets.Piece.{Lead};
 use fallible_alloc::push_str;
 use std::alloc::AllocError;
 
-/// Whether an id and an address have characters of ASCII that show alone.
+/// Returns whether an id and an address have characters of ASCII that show alone.
 pub(crate) fn is_writable(id: Option<&str>, address: &str) -> bool
     ensures { result ≡ is_fit (Lead (option_map (λ i. i.now) id.entry) address.now) }
 {
@@ -30,7 +30,7 @@ fn are_address_chars(text: &str) -> bool
     text.as_bytes().iter().all(is_address_char)
 }
 
-// Whether a byte is a character of ASCII that shows.
+// Returns whether a byte is a character of ASCII that shows.
 fn is_address_char(byte: &u8) -> bool
     ensures { result ≡ is_address_char byte.now }
 {
@@ -57,7 +57,7 @@ pub(crate) fn append_lead(
     }
 }
 
-// The same; the error may leave some of it.
+// Does the same; the error may leave some of it.
 fn append_parts(text: &mut String, id: Option<&str>, address: &str) -> Result<(), AllocError>
     ensures { OnOk result (string_bytes text.new
         ≡ string_bytes text.old ++ lead_text (option_map (λ i. i.now) id.entry) address.now) }
@@ -69,7 +69,7 @@ fn append_parts(text: &mut String, id: Option<&str>, address: &str) -> Result<()
     push_str(text, "\x1b\\")
 }
 
-// Appends an id, where there is one.
+// Appends an id, if there is one.
 fn append_id(text: &mut String, id: Option<&str>) -> Result<(), AllocError>
     ensures { OnOk result (string_bytes text.new
         ≡ string_bytes text.old ++ id_text (option_map (λ i. i.now) id.entry)) }

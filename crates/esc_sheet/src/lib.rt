@@ -1,5 +1,6 @@
-//! What a screen shows, as text: rows, with the sequences that make their looks or without; an
-//! object of JSON; in which cells two screens differ; and the lines that a terminal leaves.
+//! This crate writes the content of a screen as text: rows, with the sequences that make their
+//! looks or without; an object of JSON; the cells in which two screens differ; and the lines that a
+//! terminal leaves.
 //!
 //! A [`Sheet`] is such a text. Each of its characters shows as itself, or belongs to the character
 //! before it, as in emoji, or ends a line, or is of a sequence that makes a look (SGR) or a link

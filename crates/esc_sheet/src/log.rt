@@ -1,4 +1,4 @@
-//! What a terminal leaves, as lines.
+//! This module keeps the lines that a terminal leaves. An error is that memory was refused.
 
 use crate::rows::{end_lines, push_row};
 use crate::sheet::Sheet;
@@ -14,12 +14,12 @@ use std::alloc::{AllocError, Allocator, Global};
 pub struct Log {
     sheet: Sheet,
     has_looks: bool,
-    // whether the last line has no end yet
+    // says whether the last line has no end yet
     is_open: bool,
 }
 
 impl Log {
-    /// No lines. Takes no memory.
+    /// Returns a log without lines. Takes no memory.
     pub fn new(alloc: Global, has_looks: bool) -> Log {
         Log {
             sheet: Sheet::new(alloc),
@@ -28,13 +28,13 @@ impl Log {
         }
     }
 
-    /// The lines, as text.
+    /// Returns the lines, as text.
     pub fn sheet(&self) -> &Sheet {
         &self.sheet
     }
 
-    /// Adds the rows of a screen, of which the cells have the numbers of these looks and links,
-    /// without the last ones of which nothing is seen; and ends the line.
+    /// Adds the rows of a screen, whose cells have the numbers of these looks and links, without
+    /// the last ones that show nothing; and ends the line.
     pub fn push_screen(&mut self, screen: &Screen, styles: &Styles) -> Result<(), AllocError> {
         let seen = self.seen(styles);
         let mut missing: u16 = 0;
@@ -51,7 +51,7 @@ impl Log {
         self.end()
     }
 
-    // Ends the line, where it has no end.
+    // Ends the line, if it has no end.
     fn end(&mut self) -> Result<(), AllocError> {
         if self.is_open {
             self.end_lines(1)
@@ -83,7 +83,7 @@ impl Log {
         }
     }
 
-    // How cells look that have the numbers of these looks and links.
+    // Says how cells look that have the numbers of these looks and links.
     fn seen<'a, A: Allocator + Copy>(&self, styles: &'a Styles<A>) -> Seen<'a, A> {
         Seen {
             styles,

@@ -1,4 +1,4 @@
-//! The rows of a screen as text.
+//! The rows of a screen as text. An error is that memory was refused.
 
 use crate::sheet::Sheet;
 use crate::view::{Seen, View};
@@ -6,7 +6,7 @@ use esc_screen::{Cell, Content, Marks};
 use esc_style::Look;
 use std::alloc::{AllocError, Allocator};
 
-/// Adds the rows of a screen, a line each, without the last ones of which nothing is seen.
+/// Adds the rows of a screen, a line each, without the last ones that show nothing.
 pub fn push_rows(sheet: &mut Sheet, view: View<'_>) -> Result<(), AllocError> {
     let seen = view.seen();
     let mut missing: u16 = 0;
@@ -32,8 +32,8 @@ pub(crate) fn end_lines(sheet: &mut Sheet, count: u16) -> Result<(), AllocError>
     Ok(())
 }
 
-/// Adds a row, without the last cells of which nothing is seen, from the plain look to the plain
-/// look, with no link open before and after it.
+/// Adds a row, without the last cells that show nothing, from the plain look to the plain look,
+/// with no link open before and after it.
 pub(crate) fn push_row<A: Allocator + Copy>(
     sheet: &mut Sheet,
     cells: &[Cell],
@@ -57,7 +57,7 @@ pub(crate) fn push_row<A: Allocator + Copy>(
     push_plain(sheet, seen, held)
 }
 
-// The look that holds, where it has this number: the plain one, where it has none.
+// Returns the look that holds, if it has this number; the plain one, if it has none.
 fn held_look<A: Allocator + Copy>(seen: Seen<'_, A>, held: Option<u16>) -> Look {
     match held {
         Some(number) => seen.look_at(number),
@@ -65,7 +65,7 @@ fn held_look<A: Allocator + Copy>(seen: Seen<'_, A>, held: Option<u16>) -> Look 
     }
 }
 
-// The number of the link that is open.
+// Returns the number of the link that is open.
 fn held_link<A: Allocator + Copy>(seen: Seen<'_, A>, held: Option<u16>) -> Option<u16> {
     match held {
         Some(number) => seen.link_number(number),

@@ -1,4 +1,5 @@
 //! Text that is made of characters that show, ends of lines, sequences that make looks, and links.
+//! An error is that memory was refused.
 ghost use Rattle.std.specs.Option.{option_map};
 ghost use Rattle.std.specs.Prelude.{◌≡◌, ◌++◌, [], IsTrue, OnErr, OnOk, string_bytes, true};
 ghost use Rattle.std.specs.Fmt.{decimal};
@@ -13,29 +14,29 @@ use esc_style::Look;
 use std::alloc::{AllocError, Allocator, Global};
 use unicode_visibility::{belongs, is_shown, number_text};
 
-// How many bytes links take at most before any character, and for each character more: so a text
-// with links is no longer than a multiple of what it shows.
+// Says how many bytes links take at most before any character, and for each character more: so a
+// text with links is no longer than a multiple of what it shows.
 const FIRST_ROOM: usize = 1 << 20;
 
 const MORE_ROOM: usize = 64;
 
-/// A text of which each character shows as itself, or belongs to the character before it, as in
-/// emoji; or ends a line; or is of a sequence that makes a look, or of a link. Others are spelled.
-/// Once a request for memory is refused, some of it may be missing.
+/// A sheet is a text. Each of its characters shows as itself, or belongs to the character before
+/// it, as in emoji; or ends a line; or is of a sequence that makes a look, or of a link. Others are
+/// spelled. Once a request for memory is refused, some of it may be missing.
 #[derive(Drop)]
 pub struct Sheet {
     text: String,
-    // the last character, where it may have one that belongs to it
+    // the last character, if it may have one that belongs to it
     last: Option<char>,
-    // whether a link is open
+    // says whether a link is open
     leads: bool,
-    // how many bytes the next links may take
+    // says how many bytes the next links may take
     room: usize,
     ghost safe: { ∥ IsSheet (string_bytes text) ∥₁ },
 }
 
 impl Sheet {
-    /// No text. Takes no memory.
+    /// Returns an empty text. Takes no memory.
     #[tactic(auto, using(crate::proofs::Sheets::no_sheet))]
     pub fn new(alloc: Global) -> Sheet {
         Sheet {
@@ -46,15 +47,15 @@ impl Sheet {
         }
     }
 
-    /// The text.
+    /// Returns the text.
     pub fn as_str(&self) -> &str
         ensures { ∥ IsSheet result.now ∥₁ }
     {
         self.text.as_str()
     }
 
-    /// Adds a character: its number, as `<U+202E>`, where it does not show, and does not belong to
-    /// the one before it.
+    /// Adds a character: its number, as `<U+202E>`, if it does not show, and does not belong to the
+    /// one before it.
     pub fn push(&mut self, c: char) -> Result<(), AllocError> {
         if self.shows(c) {
             self.push_char(c)
@@ -95,8 +96,8 @@ impl Sheet {
         append_change(&mut self.text, from, to)
     }
 
-    /// Begins a link, or ends one. A link of which the id or the address has a character other than
-    /// those of ASCII that show is left out, and so is one where too much of the text is links.
+    /// Begins a link, or ends one. A link whose id or address has a character other than those of
+    /// ASCII that show is left out, and so is one if too much of the text is links.
     pub fn push_link<A: Allocator>(
         &mut self,
         link: Option<&Hyperlink<A>>,
@@ -118,7 +119,7 @@ impl Sheet {
         self.push_lead(id, address)
     }
 
-    /// Ends a link, where one is open.
+    /// Ends a link, if one is open.
     pub fn end_link(&mut self) -> Result<(), AllocError> {
         if !self.leads {
             return Ok(());
@@ -135,7 +136,7 @@ impl Sheet {
         append_lead(&mut self.text, id, address)
     }
 
-    // Whether a character shows as itself, or belongs to the last one.
+    // Returns whether a character shows as itself, or belongs to the last one.
     #[tactic(auto, using(crate::proofs::Sheets::shows_fits))]
     fn shows(&self, c: char) -> bool
         ensures { IsTrue result → is_character c ≡ true }
@@ -153,7 +154,7 @@ impl Sheet {
     }
 }
 
-// How many bytes a link takes at most, with its end.
+// Returns how many bytes a link takes at most, with its end.
 fn length_of(id: Option<&str>, address: &str) -> usize {
     let length = match id {
         Some(id) => id.len(),

@@ -16,7 +16,7 @@ use esc_values::Text;
 use esc_values::ascii::as_str;
 use std::alloc::{AllocError, Allocator};
 
-// How many bytes are gathered at most.
+// Says how many bytes are gathered at most.
 pub(crate) const ROOM: usize = 128;
 
 // The room for a slice of data: up to four numbers of ten digits, and the separators between them.

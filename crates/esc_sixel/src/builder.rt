@@ -1,4 +1,4 @@
-//! How a sixel string is read, byte by byte.
+//! This module says how a sixel string is read, byte by byte.
 ghost use Rattle.std.specs.Prelude.{◌≡◌, ◌<◌, ◌≤◌, IfOk, IfSome, ℕ, ℤ, length, take, List, [], ◌∷◌, ◌++◌, OnOk, OnErr, Some, None, false, true};
 ghost use Rattle.std.specs.List.{FoldsTo, slice_get};
 ghost use Rattle.std.specs.Option.{is_some};
@@ -51,7 +51,7 @@ pub struct SixelBuilder<A: Allocator = Global> {
 // of them.
 const MOST_ROOM: usize = 4096;
 
-// The pan that the first parameter of a header means.
+// Returns the pan that the first parameter of a header means.
 fn pan_of(params: &[i64]) -> i64
     ensures { result ≡ header_pan params.now }
 {
@@ -66,7 +66,7 @@ fn pan_of(params: &[i64]) -> i64
     }
 }
 
-// Whether the second parameter of a header is 1.
+// Returns whether the second parameter of a header is 1.
 fn is_transparent(params: &[i64]) -> bool
     ensures { result ≡ is_one (slice_get params.now 1) }
 {
@@ -76,7 +76,7 @@ fn is_transparent(params: &[i64]) -> bool
     }
 }
 
-// The third parameter of a header.
+// Returns the third parameter of a header.
 fn grid_of(params: &[i64]) -> Option<i64>
     ensures { result ≡ slice_get params.now 2 }
 {
@@ -84,7 +84,8 @@ fn grid_of(params: &[i64]) -> Option<i64>
 }
 
 impl<A: Allocator> SixelBuilder<A> {
-    /// A builder of an image with these parameters of its header, before any data. Takes no memory.
+    /// Returns a builder of an image with these parameters of its header, before any data. Takes no
+    /// memory.
     ///
     /// The first means pan: 7, 8 and 9 mean 1; 0, 1, 5 and 6 mean 2; 3 and 4 mean 3; 2 means 5; any
     /// other, or none, 2. If the second is 1 the background is transparent. The third is the
@@ -108,8 +109,8 @@ impl<A: Allocator> SixelBuilder<A> {
         }
     }
 
-    /// One more byte of the data. Takes memory only if the byte is six pixels, `$` or `-`, or ends
-    /// a `#`. The error is that it was refused, and the builder stays as it was.
+    /// Takes one more byte of the data. Takes memory only if the byte is six pixels, `$` or `-`, or
+    /// ends a `#`. The error is that it was refused, and the builder stays as it was.
     #[inline(always)]
     pub fn push(&mut self, byte: u8) -> Result<(), AllocError>
         ensures ok { (ps : List ℤ) (s : List ℕ) → HasConsumed ps s self.old
@@ -124,8 +125,8 @@ impl<A: Allocator> SixelBuilder<A> {
         }
     }
 
-    /// These bytes of the data, with the effect of a `push` of each. Memory for the data that they
-    /// can give is taken first, for up to 4096 slices of data. The error is that memory was
+    /// Takes these bytes of the data, with the effect of a `push` of each. Memory for the data that
+    /// they can give is taken first, for up to 4096 slices of data. The error is that memory was
     /// refused; the builder has then taken none of them, or those before the bytes that needed more
     /// of it.
     pub fn push_run(&mut self, bytes: &[u8]) -> Result<(), AllocError>
@@ -151,8 +152,8 @@ impl<A: Allocator> SixelBuilder<A> {
         Ok(())
     }
 
-    // The first byte of these, or the longest prefix of six pixels outside a command, or of digits
-    // in one; returns how many it took.
+    // Takes the first byte of these, or the longest prefix of six pixels outside a command, or of
+    // digits in one; returns how many it took.
     #[inline(always)]
     fn push_some(&mut self, rest: &[u8]) -> Result<usize, AllocError>
         requires { 0 < length rest.now }
@@ -187,8 +188,8 @@ impl<A: Allocator> SixelBuilder<A> {
         Ok(1)
     }
 
-    // The first byte of these outside a command, if it ends a line and memory for its data is not
-    // refused; returns the number of bytes that it took.
+    // Takes the first byte of these outside a command, if it ends a line and memory for its data is
+    // not refused; returns the number of bytes that it took.
     #[inline(always)]
     fn end_line(&mut self, rest: &[u8]) -> usize
         requires { self.old.introducer ≡ None }
@@ -209,9 +210,9 @@ impl<A: Allocator> SixelBuilder<A> {
         }
     }
 
-    // A `#` outside a command. A `#` with its number, a `!` with its count and six pixels, and the
-    // pixels after them and the end of their line, if the first come first and their numbers have
-    // up to four digits, else the `#`; returns the number of bytes that it took.
+    // Takes a `#` outside a command. It takes a `#` with its number, a `!` with its count and six
+    // pixels, and the pixels after them and the end of their line, if the first come first and
+    // their numbers have up to four digits, else the `#`; returns the number of bytes that it took.
     #[inline(always)]
     fn push_selected(&mut self, rest: &[u8]) -> Result<usize, AllocError>
         requires { ComesOutside self.old 0x23 rest.now }
@@ -303,10 +304,10 @@ impl<A: Allocator> SixelBuilder<A> {
         Some((color, after_green + digits + 1))
     }
 
-    /// The data ends here, and a command with it: the field `sixel` is the image that the
-    /// parameters and all bytes mean. To bytes that are pushed later, this counts as a byte that is
-    /// dropped. Takes memory only if a `#` is open. The error is that it was refused, and the
-    /// builder stays as it was.
+    /// Ends the data, and a command with it: the field `sixel` is the image that the parameters and
+    /// all bytes mean. To bytes that are pushed later, this counts as a byte that is dropped. Takes
+    /// memory only if a `#` is open. The error is that it was refused, and the builder stays as it
+    /// was.
     pub fn finish(&mut self) -> Result<(), AllocError>
         ensures ok { (ps : List ℤ) (s : List ℕ) → HasConsumed ps s self.old
             → OnOk result (HasConsumed ps (s ++ 0 ∷ []) self.new
@@ -318,7 +319,7 @@ impl<A: Allocator> SixelBuilder<A> {
         self.push(0)
     }
 
-    // A `#` ends; `next` is the data of the byte after it.
+    // Ends a `#`; `next` is the data of the byte after it.
     #[tactic(auto, using(std::proofs::Common::append_assoc))]
     fn end_color(&mut self, next: Option<SixelData>) -> Result<(), AllocError>
         ensures ok { (r : List ℕ) → Keeps self.old.parameters r
@@ -330,7 +331,7 @@ impl<A: Allocator> SixelBuilder<A> {
         self.sixel.content.push_two(color, next)
     }
 
-    // A `"` ends; `next` is the data of the byte after it.
+    // Ends a `"`; `next` is the data of the byte after it.
     fn end_raster(&mut self, next: Option<SixelData>) -> Result<(), AllocError>
         ensures ok { (r : List ℕ) → Keeps self.old.parameters r
             → OnOk result (self.new.sixel ≡ add_to (with_item self.old.sixel (OfRaster r)) next) }
@@ -356,7 +357,7 @@ impl<A: Allocator> SixelBuilder<A> {
         Ok(())
     }
 
-    // A command ends; `next` is the data of the byte after it.
+    // Ends a command; `next` is the data of the byte after it.
     fn end_command(
         &mut self,
         introducer: Introducer,
@@ -376,7 +377,7 @@ impl<A: Allocator> SixelBuilder<A> {
         }
     }
 
-    // A command ends, before a byte that begins none.
+    // Ends a command, before a byte that begins none.
     fn end(&mut self, introducer: Introducer, next: Option<SixelData>) -> Result<(), AllocError>
         ensures ok { (r : List ℕ) → Keeps self.old.parameters r
             → OnOk result
@@ -392,7 +393,7 @@ impl<A: Allocator> SixelBuilder<A> {
         Ok(())
     }
 
-    // A command ends, and another begins.
+    // Ends a command, and begins another.
     fn end_and_begin(&mut self, introducer: Introducer, begun: Introducer) -> Result<(), AllocError>
         ensures ok { (r : List ℕ) → Keeps self.old.parameters r
             → OnOk result
@@ -409,7 +410,7 @@ impl<A: Allocator> SixelBuilder<A> {
         Ok(())
     }
 
-    // A command ends, before six pixels.
+    // Ends a command, before six pixels.
     fn end_before_pixels(&mut self, introducer: Introducer, value: u8) -> Result<(), AllocError>
         ensures ok { (r : List ℕ) (b : ℕ) → Keeps self.old.parameters r
             → OnOk result
@@ -431,7 +432,7 @@ impl<A: Allocator> SixelBuilder<A> {
         }
     }
 
-    // A byte within or after a command.
+    // Takes a byte within or after a command.
     #[inline(always)]
     fn push_after(&mut self, introducer: Introducer, byte: u8) -> Result<(), AllocError>
         ensures ok { (r : List ℕ)
@@ -462,7 +463,7 @@ impl<A: Allocator> SixelBuilder<A> {
         }
     }
 
-    // A byte outside a command.
+    // Takes a byte outside a command.
     #[inline(always)]
     fn push_alone(&mut self, byte: u8) -> Result<(), AllocError>
         ensures ok { (b : ℕ) → HoldsOpen Closed self.old.introducer self.old.parameters

@@ -23,7 +23,7 @@ pub(crate) enum Class {
     Junk,
 }
 
-// The class of this byte.
+// Returns the class of this byte.
 #[inline]
 #[tactic(auto, unfolding(crate::specs::Classes::class_of))]
 pub(crate) fn classify(b: u8) -> Class

@@ -24,7 +24,7 @@ fn byte(parameters: &Parameters, k: usize) -> u8
     parameters.get(k).unwrap_or(0).min(255) as u8
 }
 
-// The channel of a colour that parameter `k` gives as a percentage.
+// Returns the channel of a colour that parameter `k` gives as a percentage.
 fn channel(parameters: &Parameters, k: usize) -> u8
     requires { k < 5 }
     ensures { (r : List ℕ) → Keeps parameters.now r → result ≡ percent (number r k) }
@@ -33,7 +33,7 @@ fn channel(parameters: &Parameters, k: usize) -> u8
     (255 * percent / 100) as u8
 }
 
-// The channel of a colour that is given as a percentage.
+// Returns the channel of a colour that is given as a percentage.
 #[inline(always)]
 pub(crate) fn channel_of(percent: u32) -> u8
     ensures { result ≡ percent_of percent }
@@ -42,7 +42,7 @@ pub(crate) fn channel_of(percent: u32) -> u8
     (255 * percent / 100) as u8
 }
 
-// The data of a `#` with these parameters.
+// Returns the data of a `#` with these parameters.
 pub(crate) fn color(parameters: &Parameters) -> SixelData
     ensures { (r : List ℕ) → Keeps parameters.now r → result ≡ color_of r }
 {
@@ -66,7 +66,7 @@ pub(crate) fn color(parameters: &Parameters) -> SixelData
     }
 }
 
-// The data of a `!` with these parameters, before six pixels.
+// Returns the data of a `!` with these parameters, before six pixels.
 pub(crate) fn repeat(parameters: &Parameters, value: SixelValue) -> SixelData
     ensures { (r : List ℕ) → Keeps parameters.now r → result ≡ repeat_of r value }
 {
@@ -88,7 +88,7 @@ fn size(parameters: &Parameters, k: usize) -> Option<u32>
     Some(number as u32)
 }
 
-// The width and the height of raster attributes, if both have 32 bits and the image is not
+// Returns the width and the height of raster attributes, if both have 32 bits and the image is not
 // oversize.
 pub(crate) fn sizes(parameters: &Parameters) -> Option<(u32, u32)>
     ensures { (r : List ℕ) → Keeps parameters.now r → result ≡ sizes_of r }

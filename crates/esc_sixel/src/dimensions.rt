@@ -1,15 +1,15 @@
-//! How large the data of a sixel image is.
+//! This module says how large the data of a sixel image is.
 ghost use Rattle.std.specs.Prelude.{◌≡◌, ℕ, max, ◌+◌};
 ghost use Rattle.esc_sixel.specs.Dimensions.{Has, line_after, band_after, found_after, measured_size};
 
 use crate::sixel_data::SixelData;
 
-// How far the data so far reaches. Each number is at most `u32::MAX`.
+// Says how far the data so far reaches. Each number is at most `u32::MAX`.
 #[derive(Clone, Copy)]
 pub(crate) struct Extent {
-    // How wide the widest line is.
+    // Says how wide the widest line is.
     pub(crate) widest: u32,
-    // How wide the current line is.
+    // Says how wide the current line is.
     pub(crate) line: u32,
     // The number of the current band, the first being 1.
     pub(crate) band: u32,
@@ -18,7 +18,7 @@ pub(crate) struct Extent {
 }
 
 impl Extent {
-    // So many sixels more.
+    // Adds so many sixels.
     fn add(&mut self, count: u32)
         ensures { (best n b f : ℕ) → Has self.old best n b f
             → Has self.new (max best (n + count)) (n + count) b b }
@@ -28,7 +28,7 @@ impl Extent {
         self.last = self.band;
     }
 
-    // One more slice of data.
+    // Takes one more slice of data.
     fn step(&mut self, item: &SixelData)
         ensures { (best n b f : ℕ) → Has self.old best n b f
             → Has self.new (max best (line_after n item.now)) (line_after n item.now)
@@ -61,7 +61,7 @@ impl Extent {
         }
     }
 
-    // A colour, which takes no place.
+    // Takes a colour, which has no place.
     fn stay(&mut self)
         ensures { (best n b f : ℕ) → Has self.old best n b f → Has self.new (max best n) n b f }
     {
@@ -69,7 +69,7 @@ impl Extent {
     }
 }
 
-// The width and height of the drawing of the data.
+// Returns the width and height of the drawing of the data.
 pub(crate) fn measure(content: &[SixelData]) -> (u32, u32)
     ensures { result ≡ measured_size content.now }
 {

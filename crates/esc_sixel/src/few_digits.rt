@@ -4,8 +4,8 @@ ghost use Rattle.std.specs.List.{All};
 ghost use Rattle.esc_sixel.specs.Classes.{IsDigit, IsPixels};
 ghost use Rattle.esc_sixel.specs.Lines.{NumberBefore, number_after};
 
-// The number of the digits that come first, up to four, and their count. It takes none if there are
-// fewer than four bytes.
+// Returns the number of the digits that come first, up to four, and their count. It takes none if
+// there are fewer than four bytes.
 #[inline(always)]
 pub(crate) fn few_digits(rest: &[u8]) -> (u32, usize)
     ensures few { result.1 ≤ length rest.now }
@@ -33,7 +33,7 @@ pub(crate) fn few_digits(rest: &[u8]) -> (u32, usize)
     (three * 10 + digit, 4)
 }
 
-// The value of a digit.
+// Returns the value of a digit.
 #[inline(always)]
 fn digit_of(byte: u8) -> Option<u32>
     ensures { IfSome result (λ d. IsDigit byte × (d ≡ byte - 0x30) × (d < 10)) }
@@ -44,8 +44,8 @@ fn digit_of(byte: u8) -> Option<u32>
     Some(u32::from(byte - b'0'))
 }
 
-// The number of up to four digits at this place, and the count of these, if this byte comes right
-// after them.
+// Returns the number of up to four digits at this place, and the count of these, if this byte comes
+// right after them.
 #[inline(always)]
 pub(crate) fn number_before(rest: &[u8], at: usize, mark: u8) -> Option<(u32, usize)>
     requires { at ≤ length rest.now }
@@ -59,8 +59,8 @@ pub(crate) fn number_before(rest: &[u8], at: usize, mark: u8) -> Option<(u32, us
     Some((number, digits))
 }
 
-// The number of up to four digits at this place, and the count of these, if six pixels come right
-// after them.
+// Returns the number of up to four digits at this place, and the count of these, if six pixels come
+// right after them.
 #[inline(always)]
 pub(crate) fn count_of_pixels(rest: &[u8], at: usize) -> Option<(u32, usize)>
     requires { at ≤ length rest.now }

@@ -11,12 +11,12 @@ ghost use Rattle.esc_values.specs.Params.{capped_at_i64};
 pub(crate) struct Parameters {
     // The numbers, at most `i64::MAX`; none if no digit has come.
     pub(crate) values: [Option<u64>; 5],
-    // How many `;` have come, at most five.
+    // Says how many `;` have come, at most five.
     pub(crate) count: usize,
 }
 
 impl Parameters {
-    // Those of the empty run.
+    // Returns the parameters of the empty run.
     pub(crate) fn new() -> Parameters
         ensures { Keeps result [] }
     {
@@ -26,7 +26,7 @@ impl Parameters {
         }
     }
 
-    // Whether nothing has come.
+    // Returns whether nothing has come.
     #[inline(always)]
     pub(crate) fn is_new(&self) -> bool
         ensures { result ≡ true → self.now ≡ fresh }
@@ -39,7 +39,7 @@ impl Parameters {
             && self.values[4].is_none()
     }
 
-    // One more `;`.
+    // Takes one more `;`.
     pub(crate) fn separator(&mut self)
         ensures { (run : List ℕ) → Keeps self.old run → Keeps self.new (run ++ 0x3b ∷ []) }
     {
@@ -48,7 +48,7 @@ impl Parameters {
         }
     }
 
-    // One more digit, given as its value.
+    // Takes one more digit, given as its value.
     #[inline]
     pub(crate) fn digit(&mut self, digit: u8)
         requires { digit < 10 }
@@ -61,8 +61,8 @@ impl Parameters {
         }
     }
 
-    // The longest prefix of digits of these bytes, with the effect of a `digit` of each; returns
-    // how many. It takes none past the fifth parameter.
+    // Takes the longest prefix of digits of these bytes, with the effect of a `digit` of each;
+    // returns how many. It takes none past the fifth parameter.
     #[inline(always)]
     pub(crate) fn digits(&mut self, rest: &[u8]) -> usize
         ensures few { result ≤ length rest.now }
@@ -93,7 +93,7 @@ impl Parameters {
         self.values[k]
     }
 
-    // Whether there are `n` or more `;`.
+    // Returns whether there are `n` or more `;`.
     pub(crate) fn has_separators(&self, n: usize) -> bool
         requires { n ≤ 5 }
         ensures { (run : List ℕ) → Keeps self.now run → result ≡ nat_le n (separators run) }

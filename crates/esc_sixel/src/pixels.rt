@@ -14,7 +14,7 @@ use esc_values::Items;
 use std::alloc::{AllocError, Allocator};
 use std::simd::prelude::*;
 
-// The lowest bit that is set, 16 if none is.
+// Returns the lowest bit that is set, 16 if none is.
 #[inline(always)]
 fn lowest(mask: u64) -> usize
     ensures { result ≡ lowest mask 16 }
@@ -26,7 +26,7 @@ fn lowest(mask: u64) -> usize
     }
 }
 
-// How many of the 16 bytes from `at`, from the first, are 3F to 7E.
+// Returns how many of the 16 bytes from `at`, from the first, are 3F to 7E.
 #[inline(always)]
 fn run_in_lanes(bytes: &[u8], at: usize) -> usize
     requires { at + 16 ≤ length bytes.now }
@@ -38,7 +38,7 @@ fn run_in_lanes(bytes: &[u8], at: usize) -> usize
     lowest(stops.to_bitmask())
 }
 
-// How many bytes, from the first, are 3F to 7E.
+// Returns how many bytes, from the first, are 3F to 7E.
 #[inline(always)]
 pub(crate) fn pixels_run(bytes: &[u8]) -> usize
     ensures run { All IsPixels (take result bytes.now) }
@@ -261,7 +261,7 @@ pub(crate) fn push_pixels<A: Allocator>(
     replace_with(items, run, append)
 }
 
-// The data of a byte that ends a line; none for another.
+// Returns the data of a byte that ends a line; none for another.
 #[inline(always)]
 pub(crate) fn line_end(byte: u8) -> Option<SixelData>
     ensures { IfSome result (λ d. Ends byte d) }

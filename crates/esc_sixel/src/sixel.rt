@@ -23,7 +23,7 @@ pub struct Sixel<A: Allocator = Global> {
     pub pixel_width: Option<u32>,
     /// The height in pixels, if raster attributes gave one.
     pub pixel_height: Option<u32>,
-    /// Whether pixels of 0 leave the old pixels; else they are drawn in the background colour.
+    /// Says whether pixels of 0 leave the old pixels; else they are drawn in the background colour.
     pub background_is_transparent: bool,
     /// The horizontal grid size, if the header has one.
     pub horizontal_grid_size: Option<i64>,

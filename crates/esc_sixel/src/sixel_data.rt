@@ -19,7 +19,7 @@ pub enum SixelData {
     Repeat {
         /// The pixels.
         content: SixelValue,
-        /// How many times.
+        /// The number of times.
         repeat_count: u32,
     },
     /// `#` with coordinate system 2: gives a colour to a number, and selects it.

@@ -1,4 +1,4 @@
-//! How sixel data is written.
+//! This module says how sixel data is written.
 ghost use Rattle.std.specs.Prelude.{◌≡◌};
 ghost use Rattle.std.specs.Fmt.{DisplaysOnOk};
 ghost use Rattle.esc_sixel.specs.Texts.{least_percent, content_output};
@@ -8,14 +8,14 @@ use crate::sixel_data::SixelData;
 use esc_values::ascii::as_str;
 use std::fmt;
 
-// The least percentage that is read as no less than this channel of a colour.
+// Returns the least percentage that is read as no less than this channel of a colour.
 pub(crate) fn least_percentage(channel: u8) -> u32
     ensures { result ≡ least_percent channel }
 {
     (100 * u32::from(channel) + 254) / 255
 }
 
-// The data, as much of it at once as has room in an array.
+// Writes the data, as much of it at once as has room in an array.
 pub(crate) fn write_content<W: fmt::Write>(
     content: &[SixelData],
     f: &mut fmt::Formatter<W>,

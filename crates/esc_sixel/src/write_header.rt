@@ -1,4 +1,4 @@
-//! How the header of a sixel image is written.
+//! This module says how the header of a sixel image is written.
 ghost use Rattle.std.specs.Prelude.{◌≡◌, Some, option_map};
 ghost use Rattle.std.specs.Fmt.{DisplaysOnOk};
 ghost use Rattle.esc_sixel.specs.Texts.{short_form, header_text, sized_header, short_header, ratio_header, flag_text, grid_text, background_text, ratio_text, size_text};
@@ -81,7 +81,7 @@ impl Display for Size {
     }
 }
 
-// The first parameter that means this pan and pad, if there is one.
+// Returns the first parameter that means this pan and pad, if there is one.
 fn macro_parameter(pan: i64, pad: i64) -> Option<&'static str>
     ensures { option_map (λ p. p.now) result ≡ short_form pan pad }
 {
@@ -109,8 +109,8 @@ impl<'a, A: Allocator> Display for Header<'a, A> {
     }
 }
 
-// The introducer, the parameters, the final byte, and raster attributes if the parameters do not
-// suffice.
+// Writes the introducer, the parameters, the final byte, and raster attributes if the parameters do
+// not suffice.
 pub(crate) fn write_header<W: fmt::Write, A: Allocator>(
     sixel: &Sixel<A>,
     f: &mut fmt::Formatter<W>,
@@ -126,7 +126,7 @@ pub(crate) fn write_header<W: fmt::Write, A: Allocator>(
     }
 }
 
-// The header with raster attributes that have a width.
+// Writes the header with raster attributes that have a width.
 fn write_sized<W: fmt::Write, A: Allocator>(
     sixel: &Sixel<A>,
     width: u32,
@@ -141,7 +141,7 @@ fn write_sized<W: fmt::Write, A: Allocator>(
     write!(f, "\x1bP;{background}q\"{ratio};{size}")
 }
 
-// The header whose first parameter means pan and pad.
+// Writes the header whose first parameter means pan and pad.
 fn write_short<W: fmt::Write, A: Allocator>(
     parameter: &str,
     sixel: &Sixel<A>,
@@ -154,7 +154,7 @@ fn write_short<W: fmt::Write, A: Allocator>(
     write!(f, "\x1bP{parameter};{background}q")
 }
 
-// The header with raster attributes that have pan and pad alone.
+// Writes the header with raster attributes that have pan and pad alone.
 fn write_ratio<W: fmt::Write, A: Allocator>(
     sixel: &Sixel<A>,
     f: &mut fmt::Formatter<W>,

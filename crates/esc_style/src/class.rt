@@ -49,7 +49,7 @@ pub enum Class {
 }
 
 impl Class {
-    /// Its name in an attribute `class`, up to its [`index`](Self::index).
+    /// Returns its name in an attribute `class`, up to its [`index`](Self::index).
     pub fn name(self) -> &'static str
         ensures { result.now ≡ stem self }
     {
@@ -76,7 +76,7 @@ impl Class {
         }
     }
 
-    /// The entry of the palette that its name ends in, in two or three digits.
+    /// Returns the entry of the palette that its name ends in, in two or three digits.
     pub fn index(self) -> Option<u8>
         ensures { result ≡ index_of self }
     {
@@ -89,7 +89,7 @@ impl Class {
     }
 }
 
-// The class of a colour as foreground.
+// Returns the class of a colour as foreground.
 fn foreground_name(color: AnsiColor) -> &'static str
     ensures { result.now ≡ foreground_name color }
 {
@@ -113,7 +113,7 @@ fn foreground_name(color: AnsiColor) -> &'static str
     }
 }
 
-// The class of a colour as background.
+// Returns the class of a colour as background.
 fn background_name(color: AnsiColor) -> &'static str
     ensures { result.now ≡ background_name color }
 {
@@ -137,7 +137,7 @@ fn background_name(color: AnsiColor) -> &'static str
     }
 }
 
-// The class of a colour of an underline.
+// Returns the class of a colour of an underline.
 fn underline_color_name(color: AnsiColor) -> &'static str
     ensures { result.now ≡ underline_color_name color }
 {

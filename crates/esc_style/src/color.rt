@@ -19,8 +19,8 @@ pub enum Color {
 }
 
 impl Color {
-    /// The colour that a rendition asks for. The first 16 colours of the palette of 256 are those
-    /// with names.
+    /// Returns the colour that a rendition asks for. The first 16 colours of the palette of 256 are
+    /// those with names.
     pub fn of(color: ColorSpec) -> Color
         ensures { result ≡ color_of color }
     {
@@ -32,7 +32,7 @@ impl Color {
     }
 }
 
-// An entry of the palette.
+// Returns an entry of the palette.
 fn at(index: u8) -> Color
     ensures { result ≡ color_at index }
 {
@@ -43,8 +43,8 @@ fn at(index: u8) -> Color
     }
 }
 
-/// The intensities of an entry of the palette, from 16 on, as xterm has them: 6 levels each of red,
-/// green and blue (16 to 231), and 24 greys (232 to 255).
+/// Returns the intensities of an entry of the palette, from 16 on, as xterm has them: 6 levels each
+/// of red, green and blue (16 to 231), and 24 greys (232 to 255).
 pub fn palette(index: u8) -> RgbColor
     ensures { result ≡ palette index }
 {
@@ -57,7 +57,7 @@ pub fn palette(index: u8) -> RgbColor
     }
 }
 
-// One of the six intensities of the cube.
+// Returns one of the six intensities of the cube.
 fn level(step: u8) -> u8
     requires { step < 6 }
     ensures { result ≡ level step }
@@ -82,7 +82,7 @@ pub(crate) fn color_code(color: RgbColor) -> [u8; 8]
     ]
 }
 
-// A hexadecimal digit.
+// Returns a hexadecimal digit.
 fn hex_digit(number: u8) -> u8
     requires { number < 16 }
     ensures { result ≡ hex_digit number }

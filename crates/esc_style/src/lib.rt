@@ -1,6 +1,6 @@
-//! How characters look, by the renditions of SGR (ECMA-48, 8.3.117; xterm's list, "Character
-//! Attributes (SGR)"), and the classes and styles of HTML for it. `esc_html` and `line_collapse`
-//! use it.
+//! This module says how characters look, by the renditions of SGR (ECMA-48, 8.3.117; xterm's list,
+//! "Character Attributes (SGR)"), and the classes and styles of HTML for it. `esc_html` and
+//! `line_collapse` use it.
 //!
 //! [`Look`] takes renditions one after another, and says which [`Class`]es and [`Style`]s a span of
 //! such characters has.

@@ -1,4 +1,4 @@
-//! How characters look.
+//! This module says how characters look.
 ghost use Rattle.std.specs.Prelude.{◌≡◌, is_none};
 ghost use Rattle.std.specs.List.{list_all};
 ghost use Rattle.esc_style.specs.Looks.{background_class, background_style, class_if, foreground_class, foreground_style, is_blinking, is_plain, look_after, look_by, look_by_all, look_by_optional, look_classes, look_styles, plain_look, seen_foreground, shown_background, shown_foreground, underline_class, underline_color_class, underline_color_style, with_intensity};
@@ -12,27 +12,27 @@ use esc_sequences::{CSI, Intensity, Underline};
 use std::alloc::Allocator;
 use typed_functions::{Blink, Function, Rendition, Renditions};
 
-/// How characters look: the renditions that hold for them (ECMA-48, 8.3.117, SGR; xterm's list,
-/// "Character Attributes (SGR)").
+/// Says how characters look: the renditions that hold for them (ECMA-48, 8.3.117, SGR; xterm's
+/// list, "Character Attributes (SGR)").
 #[derive(Clone, Copy, Debug, PartialEq, Eq)]
 pub struct Look {
-    /// Whether they are bold.
+    /// Says whether they are bold.
     pub bold: bool,
-    /// Whether they are faint. Bold characters may be faint too.
+    /// Says whether they are faint. Bold characters may be faint too.
     pub faint: bool,
-    /// Whether they are slanted.
+    /// Says whether they are slanted.
     pub italic: bool,
-    /// How they are underlined.
+    /// Says how they are underlined.
     pub underline: Underline,
-    /// Whether they blink.
+    /// Says whether they blink.
     pub blink: bool,
-    /// Whether their colour and that around them are exchanged.
+    /// Says whether their colour and that around them are exchanged.
     pub inverse: bool,
-    /// Whether they are hidden.
+    /// Says whether they are hidden.
     pub concealed: bool,
-    /// Whether they are crossed out.
+    /// Says whether they are crossed out.
     pub strikethrough: bool,
-    /// Whether they have a line above.
+    /// Says whether they have a line above.
     pub overline: bool,
     /// Their colour.
     pub foreground: Color,
@@ -43,7 +43,7 @@ pub struct Look {
 }
 
 impl Look {
-    /// As at first: none of the renditions.
+    /// Returns a look as at first: none of the renditions holds.
     pub fn plain() -> Look
         ensures { result ≡ plain_look }
     {
@@ -134,14 +134,14 @@ impl Look {
         }
     }
 
-    /// Whether it needs no span: it has neither a class nor a style.
+    /// Returns whether it needs no span: it has neither a class nor a style.
     pub fn is_plain(&self) -> bool
         ensures { result ≡ is_plain self.now }
     {
         are_no_classes(&self.classes()) && are_no_styles(&self.styles())
     }
 
-    // The colour in which characters are shown.
+    // Returns the colour in which characters are shown.
     fn shown_foreground(&self) -> Color
         ensures { result ≡ shown_foreground self.now }
     {
@@ -152,7 +152,8 @@ impl Look {
         }
     }
 
-    /// The colour in which characters are shown, but for concealed ones, which are seen in none.
+    /// Returns the colour in which characters are shown, but for concealed ones, which are seen in
+    /// none.
     pub fn seen_foreground(&self) -> Color
         ensures { result ≡ seen_foreground self.now }
     {
@@ -163,7 +164,7 @@ impl Look {
         }
     }
 
-    /// The colour that is shown around them.
+    /// Returns the colour that is shown around them.
     pub fn shown_background(&self) -> Color
         ensures { result ≡ shown_background self.now }
     {
@@ -174,7 +175,7 @@ impl Look {
         }
     }
 
-    // Its classes, each if it is there.
+    // Returns its classes, each if it is there.
     pub fn classes(&self) -> [Option<Class>; 12]
         ensures { result ≡ look_classes self.now }
     {
@@ -194,7 +195,7 @@ impl Look {
         ]
     }
 
-    // Its styles, each if it is there.
+    // Returns its styles, each if it is there.
     pub fn styles(&self) -> [Option<Style>; 3]
         ensures { result ≡ look_styles self.now }
     {
@@ -206,21 +207,21 @@ impl Look {
     }
 }
 
-// Whether no class is there.
+// Returns whether no class is there.
 fn are_no_classes(classes: &[Option<Class>]) -> bool
     ensures { result ≡ list_all is_none classes.now }
 {
     classes.iter().all(|class| class.is_none())
 }
 
-// Whether no style is there.
+// Returns whether no style is there.
 fn are_no_styles(styles: &[Option<Style>]) -> bool
     ensures { result ≡ list_all is_none styles.now }
 {
     styles.iter().all(|style| style.is_none())
 }
 
-// Whether characters blink.
+// Returns whether characters blink.
 fn is_blinking(blink: Blink) -> bool
     ensures { result ≡ is_blinking blink }
 {

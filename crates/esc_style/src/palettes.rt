@@ -37,7 +37,7 @@ pub struct Scheme {
 }
 
 impl Palette {
-    /// The one of this name.
+    /// Returns the palette of this name.
     pub fn of(name: &str) -> Option<Palette> {
         match name {
             "xterm" => Some(Palette::Xterm),
@@ -49,7 +49,7 @@ impl Palette {
         }
     }
 
-    /// Its colours on a light page.
+    /// Returns its colours on a light page.
     pub fn light(self) -> Scheme {
         match self {
             Palette::Xterm => XTERM_ON_LIGHT,
@@ -60,7 +60,7 @@ impl Palette {
         }
     }
 
-    /// And on a dark one.
+    /// Returns its colours on a dark page.
     pub fn dark(self) -> Scheme {
         match self {
             Palette::Xterm => XTERM_ON_DARK,
@@ -72,7 +72,7 @@ impl Palette {
     }
 }
 
-// As xterm has them by default (XTerm-color).
+// These are the colours of xterm by default (XTerm-color).
 const XTERM: [Rgb; 16] = [
     (0x00, 0x00, 0x00),
     (0xcd, 0x00, 0x00),
@@ -92,7 +92,7 @@ const XTERM: [Rgb; 16] = [
     (0xff, 0xff, 0xff),
 ];
 
-// As the text modes of VGA have them, and the Linux console (drivers/tty/vt/vt.c).
+// These are the colours of VGA's text modes, and of the Linux console (drivers/tty/vt/vt.c).
 const VGA: [Rgb; 16] = [
     (0x00, 0x00, 0x00),
     (0xaa, 0x00, 0x00),
@@ -172,7 +172,7 @@ const ONE_HALF_LIGHT: [Rgb; 16] = [
     (0xfa, 0xfa, 0xfa),
 ];
 
-// And after One Dark.
+// These are the colours after One Dark.
 const ONE_HALF_DARK: [Rgb; 16] = [
     (0x28, 0x2c, 0x34),
     (0xe0, 0x6c, 0x75),

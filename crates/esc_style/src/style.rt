@@ -19,7 +19,7 @@ pub enum Style {
 }
 
 impl Style {
-    // The property, with its colon.
+    // Returns the property, with its colon.
     pub fn property(&self) -> &'static str
         ensures { result.now ≡ style_property self.now }
     {
@@ -30,14 +30,14 @@ impl Style {
         }
     }
 
-    // Its colour, `#rrggbb`, and a semicolon.
+    // Returns its colour, `#rrggbb`, and a semicolon.
     pub fn code(&self) -> [u8; 8]
         ensures { result ≡ color_code (style_color self.now) }
     {
         color_code(self.color())
     }
 
-    // The colour.
+    // Returns the colour.
     fn color(&self) -> RgbColor
         ensures { result ≡ style_color self.now }
     {

@@ -1,4 +1,4 @@
--- What a character that is printed leaves of a grid.
+-- The grid after a character that is printed.
 use Rattle.std.proofs.Common.{ℕ, ◌≡◌, ◌+◌, ◌-◌, ◌==◌, Bool, true, false, List, ◌++◌, length, map, take, drop, if◌then◌else◌, refl, ap, sym, ◌∙◌, length-append, arith}
 use Rattle.std.proofs.lemmas.List.{length-map, length-set, take-append-drop}
 use Rattle.esc_screen.specs.Cells.{cleared_cells}

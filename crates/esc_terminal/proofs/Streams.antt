@@ -1,4 +1,4 @@
--- What a terminal was given of values.
+-- Values that a terminal was given.
 use Rattle.std.proofs.Common.{ℕ, ◌≡◌, List, [], ◌∷◌, ◌++◌, None, Some, inl, inr, ap, sym, subst, ◌∙◌, append_assoc, append-nil, refl, true}
 use Rattle.std.specs.List.{FoldsTo}
 use Rattle.esc_actions.proofs.Meanings.{meaning_more, meaning_nil}

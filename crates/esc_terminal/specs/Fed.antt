@@ -1,4 +1,4 @@
--- What a terminal was fed.
+-- Streams that were fed to a terminal.
 use Rattle.std.specs.Prelude.{ℕ, ◌≡◌, false, true, List, [], ◌++◌, IsSomeAnd, None, Option, Some}
 use Rattle.esc_actions.specs.Meaning.{yield_within}
 use Rattle.esc_actions.specs.Values.{Value, value_of}

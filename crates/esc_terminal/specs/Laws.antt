@@ -1,4 +1,4 @@
--- What holds of every stream.
+-- Laws of every stream.
 use Rattle.std.specs.Prelude.{ℕ, ◌≡◌, ◌<◌, List, ◌++◌, Some}
 use Rattle.esc_actions.specs.Meaning.{yield_within}
 use Rattle.esc_screen.specs.Grids.{Size}

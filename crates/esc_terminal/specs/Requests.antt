@@ -1,4 +1,4 @@
--- What a stream asks a terminal for.
+-- The requests of a stream to a terminal.
 use Rattle.std.specs.Prelude.{List, [], ◌∷◌, Option, Some, None}
 use Rattle.esc_actions.specs.Values.{Value, csi, esc}
 use Rattle.typed_functions.specs.Escapes.{of_escape}

@@ -1,4 +1,4 @@
--- What each value of a stream does to a screen, by the names of ECMA-48, DEC and xterm.
+-- The steps of a screen for each value of a stream, by the names of ECMA-48, DEC and xterm.
 use Rattle.std.specs.Prelude.{ℕ, ◌+◌, ◌-◌, ◌==◌, nat_lt, min, Bool, true, false, if◌then◌else◌, List, [], ◌∷◌, Option, Some, None}
 use Rattle.unicode_width.specs.Width.{char_width}
 use Rattle.esc_values.specs.Params.{is_from}

@@ -20,12 +20,12 @@ use memchr::memchr;
 use std::alloc::{AllocError, Allocator, Global};
 use typed_functions::Function;
 
-/// What a terminal holds, and what takes the rows that are scrolled off its screen.
+/// The state of a terminal, and the sink of the rows that are scrolled off its screen.
 #[derive(Drop)]
 pub(crate) struct Keeping<R, A: Allocator = Global> {
-    /// What it holds.
+    /// The state.
     pub state: State<A>,
-    /// What takes the rows.
+    /// The sink.
     pub rows: R,
 }
 

@@ -1,4 +1,4 @@
-//! What holds of terminals, for every allocator `A`, which the type of the actions names.
+//! Laws of terminals, for every allocator `A`, which the type of the actions names.
 ghost use Rattle.esc_terminal.specs.Laws.{GoesOn, IsAlwaysSound, IsAlwaysWhole};
 ghost use Rattle.esc_terminal.specs.Scrolled.{GoesOffOn};
 
@@ -20,7 +20,7 @@ pub fn goes_on<A: Allocator>()
     ensures { GoesOn A }
 {}
 
-/// What comes after a stream scrolls off more, after what the stream does.
+/// The rows that a stream scrolls off come first, and then those that the bytes after it do.
 pub fn goes_off_on<A: Allocator>()
     ensures { GoesOffOn A }
 {}

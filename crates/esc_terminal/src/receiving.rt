@@ -1,4 +1,4 @@
-//! What actions do to a terminal.
+//! A terminal as a sink of actions.
 ghost use Rattle.esc_terminal.specs.Fed.{Takes};
 ghost use Rattle.fallible_alloc.specs.Refusals.{Refused};
 
@@ -55,7 +55,7 @@ impl<A: Allocator + Copy> Sink<Action<A>> for State<A> {
         true
     }
 
-    // What follows is as by default, and written out: at the type of an action, a method that is
+    // The next methods are as by default, and written out: at the type of an action, one that is
     // taken over from the trait costs a proof some seconds more.
     #[inline]
     fn receive_command(&mut self, _text: &[u8]) -> Result<bool, AllocError> {

@@ -1,14 +1,14 @@
-//! What is asked of a terminal.
+//! Requests to a terminal.
 ghost use Rattle.std.specs.Prelude.{◌≡◌};
 ghost use Rattle.esc_terminal.specs.Requests.{cursor_request, device_request, escape_request, function_request, mode_request};
 ghost use Rattle.typed_functions.specs.Functions.{value_of as function_value};
 
 use typed_functions::{Cursor, Device, Escape, Function, ModeStatus};
 
-/// What a stream asks a terminal for, which a real one answers.
+/// A request of a stream, which a real terminal answers.
 #[derive(Clone, Copy, Debug, PartialEq, Eq)]
 pub enum Request {
-    /// What it is, in its primary attributes: DA1, DECID.
+    /// Its primary attributes: DA1, DECID.
     PrimaryAttributes,
     /// The same, in its secondary attributes: DA2.
     SecondaryAttributes,
@@ -26,7 +26,7 @@ pub enum Request {
     PrivateModeState(u32),
 }
 
-/// What a function asks for, where it asks for something.
+/// The request of a function, if it is one.
 pub fn request_of(function: Function<'_>) -> Option<Request>
     ensures { result ≡ function_request (function_value function.entry) }
 {

@@ -1,4 +1,4 @@
-//! What takes the rows that are scrolled off a screen.
+//! A sink of the rows that are scrolled off a screen.
 ghost use Rattle.std.specs.Prelude.{◌≡◌, [], ◌∷◌, ◌++◌, List, OnErr, OnOk, string_bytes};
 ghost use Rattle.esc_screen.specs.Used.{IsUnusedFrom};
 ghost use Rattle.esc_screen.specs.declared.cell.Cell.{Cell as TheCell};
@@ -47,7 +47,7 @@ pub trait Rows {
     }
 }
 
-// What is lent.
+// A sink that is lent.
 impl<R: Rows> Rows for &mut R {
     ghost takes = { λ p r q. R.takes p.now r q.now };
 

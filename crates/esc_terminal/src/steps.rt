@@ -1,4 +1,4 @@
-//! What a value of a stream does to a screen.
+//! The steps of a screen for a value of a stream.
 ghost use Rattle.std.specs.Prelude.{◌≡◌};
 ghost use Rattle.typed_functions.specs.Functions.{value_of as function_value};
 ghost use Rattle.esc_terminal.specs.Steps.{after_step, before_step, charset_step, choice_step, chosen, clear_step, control_step, cursor_step, device_step, display_step, edit_step, escape_step, is_drawing, line_step, margins_step, mode_step, one_step, print_step, private_step, standard_step, tab_step};
@@ -34,7 +34,7 @@ pub fn print_step(c: char) -> Step
     }
 }
 
-/// What a control code does.
+/// The step of a control code.
 pub fn control_step(code: ControlCode) -> Step
     ensures { result ≡ control_step code }
 {
@@ -54,7 +54,7 @@ pub fn control_step(code: ControlCode) -> Step
     }
 }
 
-/// What is done to the cursor, which is at this place, and to what bounds it.
+/// The step of a movement of the cursor, which is at this place, or of a change of its bounds.
 pub fn cursor_step(from: Place, cursor: Cursor) -> Step
     ensures { result ≡ cursor_step from cursor }
 {
@@ -149,7 +149,7 @@ fn tab_step(choice: CursorTabulationControl) -> Step
     }
 }
 
-/// What one of several choices does to tab stops, by its number.
+/// The step of one of several choices of tab stops, by its number.
 pub fn choice_step(change: TabChange, number: Option<u64>) -> Step
     ensures { result ≡ choice_step change number }
 {
@@ -171,7 +171,7 @@ pub fn choice_step(change: TabChange, number: Option<u64>) -> Step
     }
 }
 
-/// What is inserted, deleted, erased and scrolled. Nothing is protected, so what erases the rest
+/// The step that inserts, deletes, erases or scrolls. Nothing is protected, so what erases the rest
 /// erases all.
 pub fn edit_step(edit: Edit) -> Step
     ensures { result ≡ edit_step edit }
@@ -215,7 +215,7 @@ fn line_step(part: EraseInLine) -> Step
     }
 }
 
-/// What is asked of the terminal itself: a reset.
+/// The step of a request to the terminal itself: a reset.
 pub fn device_step(device: Device) -> Step
     ensures { result ≡ device_step device }
 {
@@ -225,7 +225,7 @@ pub fn device_step(device: Device) -> Step
     }
 }
 
-/// What an escape sequence asks for.
+/// The step of an escape sequence.
 pub fn escape_step(escape: Escape) -> Step
     ensures { result ≡ escape_step escape }
 {
@@ -268,7 +268,7 @@ fn is_drawing(set: Charset94) -> bool
     }
 }
 
-/// What is done to a mode of this number.
+/// The step that changes the mode of this number.
 pub fn mode_step(change: ModeChange, number: Option<u64>) -> Step
     ensures { result ≡ mode_step change number }
 {

@@ -159,7 +159,7 @@ impl<A: Allocator> Terminal<A> {
         }
     }
 
-    /// What the last chunk asked for, in order.
+    /// The requests of the last chunk, in order.
     pub fn requests(&self) -> &[Request]
         ensures { result.now ≡ asked_in self.now.state }
     {

@@ -51,8 +51,8 @@ in_order [] = []
 in_order (e ∷ es) = with_entry e (in_order es)
 
 -- The kinds of values that a format has. `Of` is the type of a kind's values; `read_as` gives the
--- value of a text, or of none if the key is absent, if there is one; `text_as` the text, unless the
--- value is that of an absent key; `Fits` says which values read back.
+-- value, if there is one, of a text, or of no text if the key is absent; `text_as` the text, unless
+-- the value is that of an absent key; `Fits` says which values read back.
 pub record Kinds : Type 1 where
   pub Kind : Type 0
   pub Of : Kind → Type 0

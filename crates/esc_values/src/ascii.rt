@@ -4,7 +4,7 @@ ghost use Rattle.std.specs.Str.{IsAscii};
 
 use std::str;
 
-/// These bytes, which are ASCII, as a text.
+/// Returns these bytes, which are ASCII, as a text.
 #[inline(always)]
 pub fn as_str(bytes: &[u8]) -> &str
     requires { IsAscii bytes.now }

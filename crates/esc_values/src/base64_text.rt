@@ -13,7 +13,8 @@ use std::alloc::{AllocError, Allocator};
 use std::fmt;
 use std::fmt::Display;
 
-// The standard alphabet; padding is written and required; trailing bits are allowed when reading.
+// Returns the standard alphabet; padding is written and required; trailing bits are allowed when
+// reading.
 fn engine() -> GeneralPurpose
     ensures { IsEngine result }
 {
@@ -23,9 +24,9 @@ fn engine() -> GeneralPurpose
     )
 }
 
-/// The bytes that a base64 text encodes; none if it is no base64. Its alphabet is the standard one,
-/// padding is required, and the bits after the last byte may be any. The error is that memory was
-/// refused.
+/// Returns the bytes that a base64 text encodes; none if it is no base64. Its alphabet is the
+/// standard one, padding is required, and the bits after the last byte may be any. The error is
+/// that memory was refused.
 pub fn read_base64<A: Allocator>(alloc: A, text: &[u8]) -> Result<Option<Vec<u8, A>>, AllocError>
     ensures ok { IfOk result (λ o. option_map (λ v. v.items) o ≡ base64_of text.now) }
     ensures refused { OnErr result (Refused A) }
@@ -37,8 +38,8 @@ pub fn read_base64<A: Allocator>(alloc: A, text: &[u8]) -> Result<Option<Vec<u8,
     }
 }
 
-/// The text that a base64 text encodes; none if it is no base64, or the bytes are no UTF-8. The
-/// error is that memory was refused.
+/// Returns the text that a base64 text encodes; none if it is no base64, or the bytes are no UTF-8.
+/// The error is that memory was refused.
 pub fn read_base64_text<A: Allocator>(alloc: A, text: &[u8]) -> Result<Option<Text<A>>, AllocError>
     ensures ok { IfOk result (λ t. t ≡ base64_text_of text.now) }
     ensures refused { OnErr result (Refused A) }

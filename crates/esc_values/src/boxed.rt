@@ -36,14 +36,14 @@ impl<T: Drop, A: Allocator> Boxed<T, A> {
 }
 
 impl<T, A: Allocator> Boxed<T, A> {
-    /// The value of a `Box`, which stays at its place.
+    /// Returns the value of a `Box`, which stays at its place.
     pub fn from_box(held: Box<T, A>) -> Boxed<T, A>
         ensures { result ≡ held.value }
     {
         Boxed { held }
     }
 
-    /// The `Box` of this value, which stays at its place.
+    /// Returns the `Box` of this value, which stays at its place.
     pub fn into_box(self) -> Box<T, A>
         ensures { result.value ≡ self }
     {
@@ -51,7 +51,7 @@ impl<T, A: Allocator> Boxed<T, A> {
         held
     }
 
-    /// The value itself, which no longer lies on the heap.
+    /// Returns the value itself, which no longer lies on the heap.
     pub fn into_inner(self) -> T
         ensures { result ≡ self }
     {

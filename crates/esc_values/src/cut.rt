@@ -5,7 +5,7 @@ ghost use Rattle.esc_values.specs.Cuts.{cut_at, key_and_value};
 
 use crate::scalar::text_in;
 
-/// The bytes before and after the first `at`; none if there is no `at`.
+/// Returns the bytes before and after the first `at`; none if there is no `at`.
 pub fn cut(bytes: &[u8], at: u8) -> Option<(&[u8], &[u8])>
     ensures { option_map (λ p. (p.0.now, p.1.now)) result ≡ cut_at at bytes.now }
 {
@@ -19,8 +19,8 @@ pub fn cut(bytes: &[u8], at: u8) -> Option<(&[u8], &[u8])>
     None
 }
 
-/// The key before the first `=` and the value after it; none if there is no `=`, or one of them is
-/// no UTF-8.
+/// Returns the key before the first `=` and the value after it; none if there is no `=`, or one of
+/// them is no UTF-8.
 pub fn key_and_value(stretch: &[u8]) -> Option<(&str, &str)>
     ensures { option_map (λ e. (e.0.now, e.1.now)) result ≡ key_and_value stretch.now }
 {

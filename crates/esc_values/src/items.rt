@@ -33,7 +33,7 @@ impl<T, A: Allocator> Model for Items<T, A> {
 }
 
 impl<T, A: Allocator> Items<T, A> {
-    /// No items.
+    /// Returns no items.
     pub fn new(alloc: A) -> Items<T, A>
         ensures { result ≡ [] }
     {
@@ -42,14 +42,14 @@ impl<T, A: Allocator> Items<T, A> {
         }
     }
 
-    /// The items of a `Vec`, without a copy.
+    /// Returns the items of a `Vec`, without a copy.
     pub fn from_vec(vec: Vec<T, A>) -> Items<T, A>
         ensures { result ≡ vec.items }
     {
         Items { vec }
     }
 
-    /// The `Vec` of these items, without a copy.
+    /// Returns the `Vec` of these items, without a copy.
     pub fn into_vec(self) -> Vec<T, A>
         ensures { result.items ≡ self }
     {
@@ -57,28 +57,28 @@ impl<T, A: Allocator> Items<T, A> {
         vec
     }
 
-    /// These items.
+    /// Returns these items.
     pub fn as_slice(&self) -> &[T]
         ensures { result.now ≡ self.now }
     {
         self.vec.as_slice()
     }
 
-    /// How many items it has.
+    /// Returns how many items it has.
     pub fn len(&self) -> usize
         ensures { result ≡ length self.now }
     {
         self.vec.len()
     }
 
-    /// Whether it has no items.
+    /// Returns whether it has no items.
     pub fn is_empty(&self) -> bool
         ensures { IsTrue result ↔ (self.now ≡ []) }
     {
         self.vec.is_empty()
     }
 
-    /// Its items one after another, from the first.
+    /// Returns its items one after another, from the first.
     pub fn iter(&self) -> slice::Iter<'_, T>
         ensures rest { iter_rest result ≡ self.now }
         ensures runs { IterYieldsInOrder T }
@@ -159,7 +159,7 @@ impl<T, A: Allocator> Items<T, A> {
 }
 
 impl<T: Copy, A: Allocator> Items<T, A> {
-    /// A copy of `items`. The error is that memory was refused.
+    /// Returns a copy of `items`. The error is that memory was refused.
     pub fn from_slice(alloc: A, items: &[T]) -> Result<Items<T, A>, AllocError>
         ensures ok { IfOk result (λ v. v ≡ items.now) }
         ensures refused { OnErr result (Refused A) }
@@ -171,7 +171,7 @@ impl<T: Copy, A: Allocator> Items<T, A> {
 }
 
 impl<T, A: Allocator> Items<T, A> {
-    /// The item at this place, counted from 0; none past the last.
+    /// Returns the item at this place, counted from 0; none past the last.
     pub fn get(&self, index: usize) -> Option<&T>
         ensures { option_map (λ x. x.now) result ≡ slice_get self.now index }
     {

@@ -1,5 +1,5 @@
-//! How numbers are written. Those under 256, which nearly all of them are, take no call of a
-//! general formatter.
+//! This module says how numbers are written. Those under 256, which nearly all of them are, take no
+//! call of a general formatter. An error is that of the writer below the formatter.
 ghost use Rattle.std.specs.Prelude.{◌≡◌, ◌+◌, ◌<◌, ◌≤◌, ◌∷◌, [], Some};
 ghost use Rattle.std.specs.Fmt.{DisplaysOnOk, decimal, signed_decimal};
 
@@ -59,7 +59,7 @@ fn write_digit<W: fmt::Write>(value: u8, f: &mut fmt::Formatter<W>) -> fmt::Resu
     f.write_str(digit(value))
 }
 
-// The text of a digit.
+// Returns the text of a digit.
 fn digit(value: u8) -> &'static str
     requires { value < 10 }
     ensures { result.now ≡ (48 + value) ∷ [] }

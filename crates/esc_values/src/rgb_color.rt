@@ -21,14 +21,14 @@ impl Model for RgbColor {
 }
 
 impl RgbColor {
-    /// The colour of these intensities, each from 0 to 255.
+    /// Returns the colour of these intensities, each from 0 to 255.
     pub fn new_8bpc(red: u8, green: u8, blue: u8) -> RgbColor
         ensures { result ≡ (red, green, blue) }
     {
         RgbColor { red, green, blue }
     }
 
-    /// The intensities of red, green and blue that it was made of, each from 0 to 255.
+    /// Returns the intensities of red, green and blue that it was made of, each from 0 to 255.
     pub fn to_tuple_rgb8(self) -> (u8, u8, u8)
         ensures { result ≡ self }
     {

@@ -31,7 +31,7 @@ impl<A: Allocator> Model for Text<A> {
 }
 
 impl<A: Allocator> Text<A> {
-    /// The empty text.
+    /// Returns the empty text.
     pub fn new(alloc: A) -> Text<A>
         ensures { result ≡ [] }
     {
@@ -40,7 +40,7 @@ impl<A: Allocator> Text<A> {
         }
     }
 
-    /// A copy of `s`. The error is that memory was refused.
+    /// Returns a copy of `s`. The error is that memory was refused.
     pub fn from_str(alloc: A, s: &str) -> Result<Text<A>, AllocError>
         ensures ok { IfOk result (λ t. t ≡ s.now) }
         ensures refused { OnErr result (Refused A) }
@@ -50,14 +50,14 @@ impl<A: Allocator> Text<A> {
         })
     }
 
-    /// The text of a `String`, without a copy.
+    /// Returns the text of a `String`, without a copy.
     pub fn from_string(string: String<A>) -> Text<A>
         ensures { result ≡ string_bytes string }
     {
         Text { string }
     }
 
-    /// The `String` of this text, without a copy.
+    /// Returns the `String` of this text, without a copy.
     pub fn into_string(self) -> String<A>
         ensures { string_bytes result ≡ self }
     {
@@ -72,7 +72,7 @@ impl<A: Allocator> Text<A> {
         self.string.as_str()
     }
 
-    /// The bytes of this text.
+    /// Returns the bytes of this text.
     pub fn as_bytes(&self) -> &[u8]
         ensures { result.now ≡ self.now }
     {
@@ -106,14 +106,14 @@ impl<A: Allocator> Text<A> {
         fallible_alloc::push_display(&mut self.string, value)
     }
 
-    /// How many bytes it has.
+    /// Returns how many bytes it has.
     pub fn len(&self) -> usize
         ensures { result ≡ length self.now }
     {
         self.string.as_str().len()
     }
 
-    /// Whether it has no bytes.
+    /// Returns whether it has no bytes.
     pub fn is_empty(&self) -> bool
         ensures { IsTrue result ↔ (self.now ≡ []) }
     {

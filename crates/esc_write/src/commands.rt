@@ -7,7 +7,7 @@ use esc_frame::runs::scans::mark_from;
 use std::alloc::Allocator;
 use std::str;
 
-// Whether the text after `8;id=` is a value without `:`, a `;`, and an address without `;`.
+// Returns whether the text after `8;id=` is a value without `:`, a `;`, and an address without `;`.
 fn is_value_and_address<A: Allocator>(text: &[u8]) -> bool
     ensures link { IsTrue result → IsUtf8 (codes "8;id=" ++ text.now)
         → IsPlainLink A (codes "8;id=" ++ text.now) }
@@ -23,7 +23,7 @@ fn is_value_and_address<A: Allocator>(text: &[u8]) -> bool
     mark_from(text, end + 1) == text.len()
 }
 
-// Whether a text has no `;`.
+// Returns whether a text has no `;`.
 fn is_one_part(text: &[u8]) -> bool
     ensures one { IsTrue result → IsOnePart text.now }
     ensures seen { IsOnePart text.now → IsTrue result }
@@ -31,7 +31,7 @@ fn is_one_part(text: &[u8]) -> bool
     mark_from(text, 0) == text.len()
 }
 
-// The rest after `8;;`.
+// Returns the rest after `8;;`.
 fn past_bare_link(text: &[u8]) -> Option<&[u8]>
     ensures { MatchOption result ((u : List ℕ) → text.now ≢ codes "8;;" ++ u) (λ r.
         text.now ≡ codes "8;;" ++ r.now) }
@@ -42,7 +42,7 @@ fn past_bare_link(text: &[u8]) -> Option<&[u8]>
     Some(rest)
 }
 
-// The rest after `8;id=`.
+// Returns the rest after `8;id=`.
 fn past_link_id(text: &[u8]) -> Option<&[u8]>
     ensures { MatchOption result ((u : List ℕ) → text.now ≢ codes "8;id=" ++ u) (λ r.
         text.now ≡ codes "8;id=" ++ r.now) }
@@ -53,10 +53,10 @@ fn past_link_id(text: &[u8]) -> Option<&[u8]>
     Some(rest)
 }
 
-/// Whether the text of an operating system command, its bytes between `ESC ]` and the terminator,
-/// is a link (OSC 8) without parameters or with `id` alone, or the end of one: `8;;` and an
-/// address, or `8;id=`, a name without `:`, `;` and an address. Such a command is written as it
-/// came, if its text is UTF-8.
+/// Returns whether the text of an operating system command, its bytes between `ESC ]` and the
+/// terminator, is a link (OSC 8) without parameters or with `id` alone, or the end of one: `8;;`
+/// and an address, or `8;id=`, a name without `:`, `;` and an address. Such a command is written as
+/// it came, if its text is UTF-8.
 pub fn is_plain_link<A: Allocator>(text: &[u8]) -> bool
     ensures link { IsTrue result → IsUtf8 text.now → IsPlainLink A text.now }
     ensures bare { IsBareLink text.now → IsTrue result }
@@ -71,8 +71,8 @@ pub fn is_plain_link<A: Allocator>(text: &[u8]) -> bool
     }
 }
 
-// Whether it is the letter of a mark that is written as it came, alone: a fresh line and a prompt,
-// the end of a prompt, the start of output, and so on.
+// Returns whether it is the letter of a mark that is written as it came, alone: a fresh line and a
+// prompt, the end of a prompt, the start of output, and so on.
 fn is_mark_alone(letter: u8) -> bool
     ensures { result
         ≡ ((letter == 0x41)
@@ -88,14 +88,14 @@ fn is_mark_alone(letter: u8) -> bool
         || letter == b'N'
 }
 
-// Whether it is the letter of a mark that may have the key `aid` alone.
+// Returns whether it is the letter of a mark that may have the key `aid` alone.
 fn is_named_mark(letter: u8) -> bool
     ensures { result ≡ ((letter == 0x41) || ((letter == 0x43) || (letter == 0x4e))) }
 {
     letter == b'A' || letter == b'C' || letter == b'N'
 }
 
-// The letter after `133;`, if nothing else follows.
+// Returns the letter after `133;`, if nothing else follows.
 fn lone_letter(text: &[u8]) -> Option<u8>
     ensures { IfSome result (λ l. text.now ≡ codes "133;" ++ l ∷ []) }
 {
@@ -105,7 +105,7 @@ fn lone_letter(text: &[u8]) -> Option<u8>
     Some(*letter)
 }
 
-// The letter after `133;`, and the text after the key `aid` behind it.
+// Returns the letter after `133;`, and the text after the key `aid` behind it.
 fn letter_and_name(text: &[u8]) -> Option<(u8, &[u8])>
     ensures { IfSome result (λ p. text.now ≡ codes "133;" ++ p.0 ∷ (codes ";aid=" ++ p.1.now)) }
 {
@@ -128,7 +128,7 @@ fn letter_and_name(text: &[u8]) -> Option<(u8, &[u8])>
     Some((*letter, name))
 }
 
-// Whether the text is a mark without keys, or with `aid` alone.
+// Returns whether the text is a mark without keys, or with `aid` alone.
 fn is_simple_mark<A: Allocator>(text: &[u8]) -> bool
     ensures { IsTrue result → IsUtf8 text.now → IsVerbatim A text.now }
 {
@@ -141,14 +141,14 @@ fn is_simple_mark<A: Allocator>(text: &[u8]) -> bool
     }
 }
 
-// Whether it is the code of a title: of icon and window, of the icon, or of the window.
+// Returns whether it is the code of a title: of icon and window, of the icon, or of the window.
 fn is_title_code(code: u8) -> bool
     ensures { result ≡ ((code == 0x30) || ((code == 0x31) || (code == 0x32))) }
 {
     code == b'0' || code == b'1' || code == b'2'
 }
 
-// Whether the text is a title.
+// Returns whether the text is a title.
 #[tactic(auto, using(crate::proofs::Verbatim::title))]
 fn is_title<A: Allocator>(text: &[u8]) -> bool
     ensures { IsTrue result → IsUtf8 text.now → IsVerbatim A text.now }
@@ -159,7 +159,7 @@ fn is_title<A: Allocator>(text: &[u8]) -> bool
     is_title_code(*code)
 }
 
-/// The text of a command that is a plain link, as [`is_plain_link`] says, if it is UTF-8.
+/// Returns the text of a command that is a plain link, as [`is_plain_link`] says, if it is UTF-8.
 pub fn plain_link<A: Allocator>(text: &[u8]) -> Option<&str>
     ensures same { IfSome result (λ t. t.now ≡ text.now) }
     ensures link { IfSome result (λ t. IsPlainLink A text.now) }
@@ -173,9 +173,9 @@ pub fn plain_link<A: Allocator>(text: &[u8]) -> Option<&str>
     }
 }
 
-/// The text of a command, if it is seen at once that the command is written as it came: a title, a
-/// link without parameters or with `id` alone, the end of a link, and the mark of a prompt without
-/// keys or with `aid` alone.
+/// Returns the text of a command, if it is seen at once that the command is written as it came: a
+/// title, a link without parameters or with `id` alone, the end of a link, and the mark of a prompt
+/// without keys or with `aid` alone.
 pub fn verbatim<A: Allocator>(text: &[u8]) -> Option<&str>
     ensures same { IfSome result (λ t. t.now ≡ text.now) }
     ensures written { IfSome result (λ t. IsVerbatim A text.now) }

@@ -70,15 +70,15 @@ pub fn append_csi_params<A: Allocator>(
     }
 }
 
-/// Whether the text of a control sequence is the text of its parameters: it has no name, or its
-/// only parameter is a number, also if that is a rendition.
+/// Returns whether the text of a control sequence is the text of its parameters: it has no name, or
+/// its only parameter is a number, also if that is a rendition.
 pub fn is_plain(params: &[CsiParam], parameters_truncated: bool, control: u8) -> bool
     ensures { IsTrue result → IsPlain params.now parameters_truncated control }
 {
     is_number(params) || is_unspecified(params, parameters_truncated, control)
 }
 
-// Whether the only parameter is a number.
+// Returns whether the only parameter is a number.
 fn is_number(params: &[CsiParam]) -> bool
     ensures { IsTrue result → IsNumber params.now }
 {

@@ -17,10 +17,10 @@ use esc_sixel::Sixel;
 use esc_values::Text;
 use std::alloc::{AllocError, Allocator};
 
-/// The text of these actions: their texts, one after another. After each operating system command,
-/// kitty image, sixel image, termcap query, short device control and end of a mode comes exactly
-/// one string terminator `ESC \`; a `StringTerminator` directly after it in the list is that one,
-/// and not a second.
+/// Returns the text of these actions: their texts, one after another. After each operating system
+/// command, kitty image, sixel image, termcap query, short device control and end of a mode comes
+/// exactly one string terminator `ESC \`; a `StringTerminator` directly after it in the list is
+/// that one, and not a second.
 ///
 /// The text of a writable list reads back as the list's normal list, and is the text of that list
 /// too. `EncodeError::Fmt` comes exactly if a sixel image of the list has a value over 63; that is
@@ -45,7 +45,7 @@ pub fn encode<A: Allocator>(alloc: A, actions: &[Action<A>]) -> Result<String<A>
     }
 }
 
-// The text of these actions.
+// Returns the text of these actions.
 fn spell<A: Allocator>(alloc: A, actions: &[Action<A>]) -> Result<Text<A>, AllocError>
     ensures text { IfOk result (λ t. t ≡ list_text (map value_of actions.now)) }
     ensures refused { OnErr result (0 < length actions.now) }
@@ -83,8 +83,8 @@ fn write_some<'a, A: Allocator>(
     Ok((rest, false))
 }
 
-// The same, for at most eight actions, one by one. Looking for a run again only after eight of them
-// keeps short runs cheap.
+// Does the same, for at most eight actions, one by one. Looking for a run again only after eight of
+// them keeps short runs cheap.
 fn write_few<'a, A: Allocator>(
     text: &mut Text<A>,
     follows_string: bool,
@@ -125,7 +125,7 @@ fn write_next<A: Allocator>(
     write_other(text, follows_string, action)
 }
 
-// The same, apart from the code that writes characters.
+// Does the same, apart from the code that writes characters.
 #[inline(never)]
 fn write_other<A: Allocator>(
     text: &mut Text<A>,
@@ -159,7 +159,7 @@ pub fn write_after<A: Allocator>(
     }
 }
 
-// The same, but it looks for a string terminator first.
+// Does the same, but it looks for a string terminator first.
 #[inline(always)]
 fn write_whole<A: Allocator>(
     text: &mut Text<A>,

@@ -1,5 +1,5 @@
-//! From actions to text: [`encode`], and the texts of control sequences and commands that are
-//! written as they came.
+//! This crate makes text of actions: [`encode`], and the texts of control sequences and commands
+//! that are written as they came.
 //!
 //! The text of a list of actions is the texts of its values, with a string terminator after each
 //! that needs one. There is no parser here: `esc_normal` joins the writer of this crate with the

@@ -9,7 +9,7 @@ use crate::short_text::ShortText;
 use esc_actions::Action;
 use std::alloc::Allocator;
 
-// The character that the action shows, if it is ASCII.
+// Returns the character that the action shows, if it is ASCII.
 #[inline(always)]
 fn ascii_of<A: Allocator>(action: &Action<A>) -> Option<u8>
     ensures ascii { IfSome result (λ b. b < 128) }
@@ -21,7 +21,7 @@ fn ascii_of<A: Allocator>(action: &Action<A>) -> Option<u8>
     }
 }
 
-// The characters of the first eight actions, if each is an ASCII character that is shown.
+// Returns the characters of the first eight actions, if each is an ASCII character that is shown.
 #[inline(always)]
 fn eight_of<A: Allocator>(actions: &[Action<A>]) -> Option<[u8; 8]>
     ensures few { IfSome result (λ bs. 8 ≤ length actions.now) }
@@ -76,7 +76,7 @@ pub(crate) fn gather_eights<'a, A: Allocator>(
     rest
 }
 
-// Whether none of these actions is a sixel image.
+// Returns whether none of these actions is a sixel image.
 #[inline(always)]
 fn are_without_sixels<A: Allocator>(actions: &[Action<A>]) -> bool
     ensures { IsTrue result → list_all (λ a. has_text (value_of a)) actions.now ≡ true }
@@ -89,7 +89,7 @@ fn are_without_sixels<A: Allocator>(actions: &[Action<A>]) -> bool
     true
 }
 
-// Whether all of them can be written.
+// Returns whether all of them can be written.
 #[inline(never)]
 fn each_has_text<A: Allocator>(actions: &[Action<A>]) -> bool
     ensures { result ≡ list_all (λ a. has_text (value_of a)) actions.now }
@@ -97,7 +97,7 @@ fn each_has_text<A: Allocator>(actions: &[Action<A>]) -> bool
     actions.iter().all(|action| action.has_text())
 }
 
-// The same, which looks for sixel images first: only those may have no text.
+// Does the same, which looks for sixel images first: only those may have no text.
 #[inline(always)]
 fn few_have_texts<A: Allocator>(actions: &[Action<A>]) -> bool
     ensures { result ≡ list_all (λ a. has_text (value_of a)) actions.now }
@@ -105,7 +105,7 @@ fn few_have_texts<A: Allocator>(actions: &[Action<A>]) -> bool
     are_without_sixels(actions) || each_has_text(actions)
 }
 
-// The same, eight actions at a time.
+// Does the same, eight actions at a time.
 pub(crate) fn have_texts<A: Allocator>(actions: &[Action<A>]) -> bool
     ensures { result ≡ list_all (λ a. has_text (value_of a)) actions.now }
 {

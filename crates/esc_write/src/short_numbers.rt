@@ -30,7 +30,7 @@ macro_rules! push_number {
     };
 }
 
-// The number that a parameter is, if it is below 256.
+// Returns the number that a parameter is, if it is below 256.
 #[inline(always)]
 fn small_number(param: CsiParam) -> Option<u8>
     ensures { IfSome result (λ n. param ≡ Integer (pos n)) }
@@ -44,7 +44,7 @@ fn small_number(param: CsiParam) -> Option<u8>
     Some(number as u8)
 }
 
-// The number that is the only parameter, if it is below 256.
+// Returns the number that is the only parameter, if it is below 256.
 #[inline(always)]
 fn lone_number(params: &[CsiParam]) -> Option<u8>
     ensures { IfSome result (λ n. params.now ≡ Integer (pos n) ∷ []) }
@@ -55,7 +55,7 @@ fn lone_number(params: &[CsiParam]) -> Option<u8>
     small_number(*param)
 }
 
-// The only two parameters, if they are numbers below 256.
+// Returns the only two parameters, if they are numbers below 256.
 #[inline(always)]
 fn two_numbers(params: &[CsiParam]) -> Option<(u8, u8)>
     ensures { IfSome result (λ p. params.now
@@ -69,7 +69,7 @@ fn two_numbers(params: &[CsiParam]) -> Option<(u8, u8)>
     Some((first, second))
 }
 
-// These numbers, if the parameters are such ones, with `;` between them.
+// Returns these numbers, if the parameters are such ones, with `;` between them.
 #[inline(always)]
 fn palette_numbers(params: &[CsiParam]) -> Option<Indexed>
     ensures csi_params { IfSome result (λ i. params.now ≡ Integer (pos i.first) ∷ P 0x3b
@@ -175,8 +175,8 @@ pub enum ShortNumbers {
 }
 
 impl ShortNumbers {
-    /// The parameters, if the control sequence is one of these, and its text is the text of the
-    /// parameters. A sequence that ends in `m` is a number alone or a colour of the palette.
+    /// Returns the parameters, if the control sequence is one of these, and its text is the text of
+    /// the parameters. A sequence that ends in `m` is a number alone or a colour of the palette.
     #[inline(always)]
     pub fn of(params: &[CsiParam], control: u8) -> Option<ShortNumbers>
         ensures plain { IfSome result (λ s. (more : Bool) → IsPlain params.now more control) }

@@ -5,10 +5,10 @@ ghost use Rattle.std.specs.Str.{IsAscii};
 use std::marker::Model;
 use std::str;
 
-/// How many bytes it holds at most.
+/// Says how many bytes it holds at most.
 pub(crate) const ROOM: usize = 128;
 
-/// At most [`ROOM`] bytes of ASCII. It takes no memory. Contracts see the bytes.
+/// The text has at most [`ROOM`] bytes of ASCII. It takes no memory. Contracts see the bytes.
 #[derive(Drop)]
 pub(crate) struct ShortText {
     bytes: [u8; ROOM],
@@ -27,7 +27,7 @@ impl Model for ShortText {
 }
 
 impl ShortText {
-    // No bytes.
+    // Returns an empty text.
     #[inline]
     pub(crate) fn new() -> ShortText
         ensures { result ≡ [] }
@@ -46,7 +46,7 @@ impl ShortText {
         self.count = 0;
     }
 
-    // How many bytes it has.
+    // Returns how many bytes it has.
     #[inline(always)]
     pub(crate) fn len(&self) -> usize
         ensures len { result ≡ length self.now }
@@ -77,7 +77,7 @@ impl ShortText {
         self.count += 8;
     }
 
-    // The bytes, as a text.
+    // Returns the bytes, as a text.
     #[inline]
     pub(crate) fn as_str(&self) -> &str
         ensures text { result.now ≡ self.now }

@@ -24,8 +24,8 @@ pub extern "C" fn escape_stream_function(
     function::function(private_prefix, intermediate, last, count, out)
 }
 
-/// The same for an escape sequence with this intermediate, 0 if there is none, and this final byte;
-/// for a C1 control the final byte is 40 less than its code (hexadecimal).
+/// Does the same for an escape sequence with this intermediate, 0 if there is none, and this final
+/// byte; for a C1 control the final byte is 40 less than its code (hexadecimal).
 #[unsafe(no_mangle)]
 pub extern "C" fn escape_stream_escape_function(
     intermediate: u8,
@@ -37,7 +37,7 @@ pub extern "C" fn escape_stream_escape_function(
     function::escape_function(intermediate, last, out)
 }
 
-/// The same for a C0 control, 00 to 1F (hexadecimal), or DEL, 7F.
+/// Does the same for a C0 control, 00 to 1F (hexadecimal), or DEL, 7F.
 #[unsafe(no_mangle)]
 pub extern "C" fn escape_stream_control_function(code: u8, out: &mut FunctionRow) -> bool
     ensures { SaysControl (control_of code) out.new result }

@@ -89,7 +89,7 @@ pub extern "C" fn escape_stream_screen_cells(
     screen_chunks::screen_cells(alloc, screen, row, out, needed)
 }
 
-/// The same for a row that was scrolled off; the first that is kept is 0.
+/// Does the same for a row that was scrolled off; the first that is kept is 0.
 #[unsafe(no_mangle)]
 pub extern "C" fn escape_stream_screen_scrolled(
     alloc: Global,
@@ -174,7 +174,7 @@ pub extern "C" fn escape_stream_screen_link(
     screen_chunks::screen_link(alloc, screen, number, out, needed)
 }
 
-/// The same for the id of a link.
+/// Does the same for the id of a link.
 #[unsafe(no_mangle)]
 pub extern "C" fn escape_stream_screen_link_id(
     alloc: Global,

@@ -16,8 +16,8 @@ pub extern "C" fn escape_stream_osc_function(text: &[u8], out: &mut StringRow) -
     string_name::osc_function(text, out)
 }
 
-/// The same for a device control string with this private prefix and this intermediate, each 0 if
-/// there is none, this final byte, these parameters and these data, whose beginning is enough.
+/// Does the same for a device control string with this private prefix and this intermediate, each 0
+/// if there is none, this final byte, these parameters and these data, whose beginning is enough.
 #[unsafe(no_mangle)]
 pub extern "C" fn escape_stream_dcs_function(
     private_prefix: u8,
@@ -33,8 +33,8 @@ pub extern "C" fn escape_stream_dcs_function(
     string_name::dcs_function((private_prefix, intermediate), last, params, data, out)
 }
 
-/// The same for the application program command of this text, which lies between `ESC _` and its
-/// terminator.
+/// Does the same for the application program command of this text, which lies between `ESC _` and
+/// its terminator.
 #[unsafe(no_mangle)]
 pub extern "C" fn escape_stream_apc_function(text: &[u8], out: &mut StringRow) -> bool
     ensures { SaysString (place_of_application text.now) out.new result }
@@ -42,7 +42,7 @@ pub extern "C" fn escape_stream_apc_function(text: &[u8], out: &mut StringRow) -
     string_name::apc_function(text, out)
 }
 
-/// The same for the row in this place, from 0 on.
+/// Does the same for the row in this place, from 0 on.
 #[unsafe(no_mangle)]
 pub extern "C" fn escape_stream_string_row(row: usize, out: &mut StringRow) -> bool
     ensures { SaysString (place_below row) out.new result }
@@ -50,7 +50,7 @@ pub extern "C" fn escape_stream_string_row(row: usize, out: &mut StringRow) -> b
     string_name::string_row(row, out)
 }
 
-/// The same for the string of this name.
+/// Does the same for the string of this name.
 #[unsafe(no_mangle)]
 pub extern "C" fn escape_stream_string_named(name: &[u8], out: &mut StringRow) -> bool
     ensures { SaysString (place_named name.now) out.new result }

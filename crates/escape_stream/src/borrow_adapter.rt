@@ -37,7 +37,7 @@ impl<S> BorrowAdapter<S> {
         BorrowAdapter { sink, begun: [] }
     }
 
-    /// The sink.
+    /// Returns the sink.
     pub fn into_sink(self) -> S
         ensures sink { result ≡ self.sink }
         ensures begun { self.begun ≡ [] }
@@ -126,7 +126,7 @@ impl<A: Allocator, S: BorrowingSink<Action<A>>> Sink<Action<A>> for BorrowAdapte
     }
 }
 
-// An action in the form in which it is handed on: by value if it is small.
+// Returns an action in the form in which it is handed on: by value if it is small.
 #[inline(always)]
 fn lent<'a, A: Allocator>(action: Action<A>) -> ActionRef<'a, Action<A>>
     ensures value { values_of result ≡ value_of action ∷ [] }
@@ -140,7 +140,7 @@ fn lent<'a, A: Allocator>(action: Action<A>) -> ActionRef<'a, Action<A>>
     }
 }
 
-// Whether a control sequence has no name, with one short rendition recognised first.
+// Returns whether a control sequence has no name, with one short rendition recognised first.
 #[inline]
 fn has_no_name(params: &[CsiParam], parameters_truncated: bool, control: u8) -> bool
     ensures { IsTrue result → csi_of params.now parameters_truncated control

@@ -30,7 +30,7 @@ pub enum ActionRef<'a, T = Action> {
     Sequence {
         /// The parameters of its body.
         params: &'a [CsiParam],
-        /// Whether the body has more parameters, which are not kept.
+        /// Says whether the body has more parameters, which are not kept.
         parameters_truncated: bool,
         /// The final byte, 40 to 7E (hexadecimal).
         control: u8,

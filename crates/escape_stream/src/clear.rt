@@ -9,14 +9,14 @@ ghost use Rattle.esc_device.specs.Writable.{is_datum};
 
 use esc_actions::ControlCode;
 
-// Whether a terminal shows this character: it is neither a C0 nor a C1 control.
+// Returns whether a terminal shows this character: it is neither a C0 nor a C1 control.
 pub(crate) fn is_clear(c: char) -> bool
     ensures { result ≡ is_clear c }
 {
     '\u{20}' <= c && (c <= '\u{7f}' || '\u{a0}' <= c)
 }
 
-// Whether a terminal shows each character of this text, and there is one.
+// Returns whether a terminal shows each character of this text, and there is one.
 #[tactic(auto, using(crate::proofs::ClearStrings::clear_string))]
 pub(crate) fn is_clear_string(text: &str) -> bool
     ensures { IsTrue result ↔ (IsClearText text.now × (text.now ≢ [])) }
@@ -27,7 +27,7 @@ pub(crate) fn is_clear_string(text: &str) -> bool
     are_clear(text)
 }
 
-// Whether a terminal shows each character of this text.
+// Returns whether a terminal shows each character of this text.
 fn are_clear(text: &str) -> bool
     ensures { result ≡ list_all is_clear (chars text.now) }
 {
@@ -39,14 +39,14 @@ fn are_clear(text: &str) -> bool
     true
 }
 
-// Whether the control is by itself: it opens and ends no sequence and no string.
+// Returns whether the control is by itself: it opens and ends no sequence and no string.
 pub(crate) fn cut_alone(code: ControlCode) -> bool
     ensures { result ≡ is_lone_control (code_number code) }
 {
     is_lone_control(code.as_char())
 }
 
-// The same for its character.
+// Does the same for its character.
 fn is_lone_control(c: char) -> bool
     ensures { result ≡ is_lone_control c }
 {
@@ -56,7 +56,7 @@ fn is_lone_control(c: char) -> bool
         || c == '\u{9a}'
 }
 
-// Whether data of a mode can hold the byte, and a text can write it.
+// Returns whether data of a mode can hold the byte, and a text can write it.
 pub(crate) fn is_datum(byte: u8) -> bool
     ensures { result ≡ is_datum byte }
 {

@@ -11,7 +11,7 @@ use esc_frame::error::ParseError;
 use esc_parse::{Collect, Parser};
 use std::alloc::Allocator;
 
-/// The actions of a stream that comes in these chunks, whatever the chunks are.
+/// Returns the actions of a stream that comes in these chunks, whatever the chunks are.
 ///
 /// The clause `returned` has no premise. It says of each list that the call returns: the stream has
 /// exactly one cut into segments; the actions are the readings of the segments, in order; each is

@@ -14,9 +14,9 @@ use esc_parse::unfinished::Unfinished;
 use esc_segments::{Segment, segment_events};
 use std::alloc::{AllocError, Allocator};
 
-/// The actions of a segment, in order, as a [`Parser`](crate::Parser) would hand them out wherever
-/// the segment comes in a stream. They are found by splitting the segment's bytes, without a
-/// parser.
+/// Returns the actions of a segment, in order, as a [`Parser`](crate::Parser) would hand them out
+/// wherever the segment comes in a stream. They are found by splitting the segment's bytes, without
+/// a parser.
 ///
 /// The segment is one that [`Segments`](esc_segments::Segments) gave. If it is unfinished, these
 /// are its actions so far. For any other value of the type, the promise is only that the call

@@ -17,9 +17,9 @@ use esc_values::Text;
 use esc_write::encoding::write_after;
 use std::alloc::{AllocError, Allocator};
 
-// Whether the action is the first that its own text means, and no exception: of all but strings of
-// characters, bytes and ends of modes this says that it is writable. The error is that memory was
-// refused.
+// Returns whether the action is the first that its own text means, and no exception: of all but
+// strings of characters, bytes and ends of modes this says that it is writable. The error is that
+// memory was refused.
 #[tactic(auto, using(crate::proofs::NeverRead::not_exception))]
 pub(crate) fn reads_back<A: Allocator + Copy>(
     alloc: A,
@@ -39,8 +39,8 @@ pub(crate) fn reads_back<A: Allocator + Copy>(
     }
 }
 
-// The first action that the text of this one means, with a string terminator after it; none if it
-// has no text.
+// Returns the first action that the text of this one means, with a string terminator after it; none
+// if it has no text.
 #[tactic(auto, using(crate::proofs::Backs::writable_has_text))]
 fn first_meant<A: Allocator + Copy>(
     alloc: A,
@@ -61,7 +61,7 @@ fn first_meant<A: Allocator + Copy>(
     }
 }
 
-// The text of the action with a string terminator after it.
+// Returns the text of the action with a string terminator after it.
 fn terminated<A: Allocator>(alloc: A, action: &Action<A>) -> Result<Text<A>, AllocError>
     ensures ok { IfOk result (λ t. t ≡ text_after false (value_of action.now) ++ 0x1b ∷ 0x5c ∷ []) }
     ensures refused { has_text (value_of action.now) ≡ true → OnErr result (Refused A) }
@@ -72,7 +72,7 @@ fn terminated<A: Allocator>(alloc: A, action: &Action<A>) -> Result<Text<A>, All
     Ok(text)
 }
 
-// The first action that these bytes mean.
+// Returns the first action that these bytes mean.
 fn first_action<A: Allocator + Copy>(
     alloc: A,
     bytes: &[u8],

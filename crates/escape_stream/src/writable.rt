@@ -1,4 +1,4 @@
-//! Which actions and lists of actions read back from their text.
+//! This module says which actions and lists of actions read back from their text.
 ghost use Rattle.std.specs.Prelude.{◌≡◌, ◌↔◌, IfOk, IsTrue, OnErr, map, true};
 ghost use Rattle.esc_actions.specs.Values.{value_of};
 ghost use Rattle.esc_actions.specs.Writable.{AreWritable, IsWritable, is_within, stays_within};
@@ -11,7 +11,8 @@ use esc_actions::Action;
 use esc_device::DeviceControlMode;
 use std::alloc::{AllocError, Allocator};
 
-/// Whether the action is writable: its text, whatever follows it, reads back as the action. A
+/// Returns whether the action is writable: its text, whatever follows it, reads back as the action.
+/// A
 /// `PrintString` reads back as its characters, and is writable if it has one or more and all are
 /// clear. An `Enter`, a byte of data and an `Exit` read back in a group, and only there.
 ///
@@ -42,9 +43,9 @@ pub fn is_writable<A: Allocator + Copy>(alloc: A, action: &Action<A>) -> Result<
     }
 }
 
-/// Whether the list is writable: [`encode`](crate::encode) writes a text of it that reads back as
-/// its normal list. Each of its actions is writable, and `Enter`, bytes of data and `Exit` come in
-/// this order, as a group, and only so. The empty list is writable.
+/// Returns whether the list is writable: [`encode`](crate::encode) writes a text of it that reads
+/// back as its normal list. Each of its actions is writable, and `Enter`, bytes of data and `Exit`
+/// come in this order, as a group, and only so. The empty list is writable.
 ///
 /// Takes time in proportion to the list's text, and no more memory than one action of it. The error
 /// is that memory was refused.
@@ -68,14 +69,14 @@ pub fn are_writable<A: Allocator + Copy>(
     Ok(!within)
 }
 
-// Whether the action may come here; `within` says whether a mode is entered.
+// Returns whether the action may come here; `within` says whether a mode is entered.
 fn is_in_place<A: Allocator>(action: &Action<A>, within: bool) -> bool
     ensures { IsTrue result ↔ (is_within (value_of action.now) ≡ within) }
 {
     is_within(action) == within
 }
 
-// Whether the action comes inside a mode, and nowhere else.
+// Returns whether the action comes inside a mode, and nowhere else.
 fn is_within<A: Allocator>(action: &Action<A>) -> bool
     ensures { result ≡ is_within (value_of action.now) }
 {
@@ -96,7 +97,7 @@ fn is_within<A: Allocator>(action: &Action<A>) -> bool
     }
 }
 
-// Whether a mode is entered after the action.
+// Returns whether a mode is entered after the action.
 fn stays_within<A: Allocator>(action: &Action<A>) -> bool
     ensures { result ≡ stays_within (value_of action.now) }
 {

@@ -64,7 +64,7 @@ fn add_image(fields: &'static str, text: &[u8], to: &mut Phrase) {
     }
 }
 
-// Whether keys with `,` between them have this one.
+// Returns whether keys with `,` between them have this one.
 fn has_key(keys: &[u8], wanted: &[u8]) -> bool {
     let mut rest = Some(keys);
     for _ in 0..u64::MAX {
@@ -80,7 +80,7 @@ fn has_key(keys: &[u8], wanted: &[u8]) -> bool {
     false
 }
 
-// Whether keys say which images are deleted, as `d=i`.
+// Returns whether keys say which images are deleted, as `d=i`.
 fn has_kind(keys: &[u8]) -> bool {
     let mut rest = Some(keys);
     for _ in 0..u64::MAX {
@@ -96,12 +96,12 @@ fn has_kind(keys: &[u8]) -> bool {
     false
 }
 
-// Whether the data are the name of a file or of shared memory.
+// Returns whether the data are the name of a file or of shared memory.
 fn is_path(keys: &[u8]) -> bool {
     has_key(keys, b"t=f") || has_key(keys, b"t=t") || has_key(keys, b"t=s")
 }
 
-// Whether the data are an answer of a terminal: `OK`, or an error and its words.
+// Returns whether the data are an answer of a terminal: `OK`, or an error and its words.
 fn is_answer(data: Option<&[u8]>) -> bool {
     match data {
         Some(b"OK") => true,

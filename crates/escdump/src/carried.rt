@@ -3,19 +3,19 @@
 use crate::item::Item;
 use crate::kind::Kind;
 
-/// Whether tmux passes on the segments that come: a device control string that begins with `tmux;`
-/// holds a stream, in which each ESC comes twice, up to a string terminator (tmux(1),
+/// Says whether tmux passes on the segments that come: a device control string that begins with
+/// `tmux;` holds a stream, in which each ESC comes twice, up to a string terminator (tmux(1),
 /// "allow-passthrough"). Its ESC ends it for any other terminal, so its stream comes as segments of
 /// its own.
 #[derive(Clone, Copy, Drop)]
 pub struct Carried {
     is_on: bool,
-    // Whether the last item was an ESC that is there twice.
+    // Says whether the last item was an ESC that is there twice.
     is_doubled: bool,
 }
 
 impl Carried {
-    /// Nothing came.
+    /// Returns a value to which nothing came.
     pub fn new() -> Carried {
         Carried {
             is_on: false,
@@ -39,7 +39,7 @@ impl Carried {
     }
 }
 
-// Whether an item opens such a string, and is not the whole of it.
+// Returns whether an item opens such a string, and is not the whole of it.
 fn opens(item: &Item) -> bool {
     item.kind() == Kind::Dcs && !item.is_closed() && item.body().starts_with(b"tmux;")
 }

@@ -110,8 +110,8 @@ static CHOICES: [(ControlFunction, &str); 10] = [
     (ControlFunction::XTWINOPS, WINDOW),
 ];
 
-/// The words for the choice of this number, if it is the first of a sequence of this function and
-/// has words.
+/// Returns the words for the choice of this number, if it is the first of a sequence of this
+/// function and has words.
 pub fn chosen_words(function: ControlFunction, number: i64) -> &'static str {
     for (chosen, words) in &CHOICES {
         if *chosen == function {

@@ -11,7 +11,7 @@ pub struct Code {
 }
 
 impl Code {
-    /// Nothing came.
+    /// Returns a code to which nothing came.
     pub fn new() -> Code {
         Code {
             number: 0,
@@ -47,7 +47,7 @@ impl Code {
         }
     }
 
-    /// The number, if there is one.
+    /// Returns the number, if there is one.
     pub fn number(&self) -> Option<u64> {
         if self.has_digit {
             Some(self.number)

@@ -63,7 +63,7 @@ fn add_channels(target: &'static str, entries: &[CsiParam], to: &mut Phrase) -> 
     }
 }
 
-// The channel that is this part.
+// Returns the channel that is this part.
 fn channel(entries: &[CsiParam], part: usize) -> Option<u8> {
     match part_at(entries, 0, part) {
         Some(number) => u8::try_from(number).ok(),

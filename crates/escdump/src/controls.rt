@@ -8,7 +8,7 @@ use dump_page::Phrase;
 pub struct Count {
     /// The control.
     pub code: u8,
-    /// How often it came.
+    /// Says how often it came.
     pub times: u64,
 }
 
@@ -25,8 +25,8 @@ pub fn add_controls(counts: &[Count], to: &mut Phrase) {
     }
 }
 
-/// The bytes and the words of the commonest controls, as a line without colours has them after the
-/// place; nothing of any other.
+/// Returns the bytes and the words of the commonest controls, as a line without colours has them
+/// after the place; nothing of any other.
 pub fn known_columns(bytes: &[u8]) -> &'static str {
     match bytes {
         b"\n" => "\\x0a                    control LF line feed",

@@ -11,7 +11,7 @@
 //! the parameters; words, or nothing if they are those of the function; the fields of the rest of
 //! the parameters; and a name, if the library has none. The special ones come first.
 
-/// The table of the sequences of this final byte, if there is one.
+/// Returns the table of the sequences of this final byte, if there is one.
 pub fn table_of(last: u8) -> &'static str {
     match last {
         b'm' => LOWER_M,

@@ -28,8 +28,8 @@ pub fn add_sequence(params: &[CsiParam], is_truncated: bool, last: u8, to: &mut 
     }
 }
 
-// Whether a row may be of these parameters: renditions have none, and movements of the cursor as
-// keys alone, with modifiers.
+// Returns whether a row may be of these parameters: renditions have none, and movements of the
+// cursor as keys alone, with modifiers.
 fn may_have_row(function: Option<ControlFunction>, params: &[CsiParam]) -> bool {
     match function {
         Some(ControlFunction::SGR) => false,
@@ -98,7 +98,7 @@ fn add_marks(params: &[CsiParam], to: &mut Phrase) {
     }
 }
 
-// A text, if it is not empty.
+// Returns a text, if it is not empty.
 fn not_empty(text: Option<&[u8]>) -> Option<&[u8]> {
     match text {
         Some([]) | None => None,
@@ -121,7 +121,7 @@ fn add_named(function: Option<ControlFunction>, params: &[CsiParam], last: u8, t
     }
 }
 
-// Whether the parameters of a function may have parts with `:` between them.
+// Returns whether the parameters of a function may have parts with `:` between them.
 fn has_parts(function: ControlFunction) -> bool {
     match function.row().parameters {
         Parameters::Renditions
@@ -256,7 +256,7 @@ static SAID: [Said; 12] = [
     ),
 ];
 
-// The description of the function in words: that of its row, or for a function that asks or
+// Returns the description of the function in words: that of its row, or for a function that asks or
 // reports, by its parameters.
 fn function_words(function: ControlFunction, params: &[CsiParam]) -> &'static str {
     for Said(said, place, asked, reported) in &SAID {
@@ -358,7 +358,7 @@ fn add_rendered(function: ControlFunction, params: &[CsiParam], to: &mut Phrase)
     }
 }
 
-// The parameters up to their intermediates.
+// Returns the parameters up to their intermediates.
 fn without_marks(params: &[CsiParam]) -> &[CsiParam] {
     for at in 0..params.len() {
         if is_mark(params[at]) {
@@ -390,7 +390,7 @@ fn add_parameter(
     }
 }
 
-// The words before a parameter.
+// Returns the words before a parameter.
 fn label_of(parameter: Parameter) -> &'static str {
     match parameter {
         Parameter::Line | Parameter::GivenLine => "line ",
@@ -402,7 +402,7 @@ fn label_of(parameter: Parameter) -> &'static str {
     }
 }
 
-// The words for a parameter that is left out if the size of the screen decides.
+// Returns the words for a parameter that is left out if the size of the screen decides.
 fn last_words(parameter: Parameter) -> &'static str {
     match parameter {
         Parameter::LastLine => ", to the last line",
@@ -411,7 +411,7 @@ fn last_words(parameter: Parameter) -> &'static str {
     }
 }
 
-// The default of a parameter that is left out and counts from 1.
+// Returns the default of a parameter that is left out and counts from 1.
 fn first_of(parameter: Parameter) -> Option<i64> {
     match parameter {
         Parameter::Line | Parameter::Column | Parameter::Page | Parameter::Count => Some(1),
@@ -419,7 +419,7 @@ fn first_of(parameter: Parameter) -> Option<i64> {
     }
 }
 
-// Whether a terminal takes a 0 as a parameter that is left out (the VT510's manual; xterm).
+// Returns whether a terminal takes a 0 as a parameter that is left out (the VT510's manual; xterm).
 fn counts_from_one(parameter: Parameter) -> bool {
     match parameter {
         Parameter::Count
@@ -447,7 +447,7 @@ pub fn add_entries(params: &[CsiParam], to: &mut Phrase) {
     add_entries_after(" ", params, to);
 }
 
-// The same, after this text if they begin with a number.
+// Does the same, after this text if they begin with a number.
 fn add_entries_after(before: &'static str, params: &[CsiParam], to: &mut Phrase) {
     let mut space = before;
     for param in params {

@@ -25,7 +25,7 @@ pub fn add_base64(text: &[u8], to: &mut Phrase) {
     to.add_quoted(" ", &bytes);
 }
 
-// The number of a digit of base64.
+// Returns the number of a digit of base64.
 fn digit_of(byte: u8) -> Option<u32> {
     let number = match byte {
         b'A'..=b'Z' => byte - b'A',
@@ -38,7 +38,7 @@ fn digit_of(byte: u8) -> Option<u32> {
     Some(u32::from(number))
 }
 
-// The byte that ends with the second, the third or the fourth digit of four.
+// Returns the byte that ends with the second, the third or the fourth digit of four.
 fn byte_of(bits: u32, place: u8) -> u8 {
     let shifted = match place {
         2 => bits / 16,
@@ -78,7 +78,7 @@ pub fn add_hex_text(text: &[u8], to: &mut Phrase) {
     }
 }
 
-// The number of a hexadecimal digit.
+// Returns the number of a hexadecimal digit.
 fn hex_digit_of(byte: u8) -> Option<u8> {
     match byte {
         b'0'..=b'9' => Some(byte - b'0'),

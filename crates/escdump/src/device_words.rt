@@ -19,7 +19,7 @@ struct Parts<'t> {
 }
 
 impl Parts<'_> {
-    // The prefix, the intermediates and the final byte.
+    // Returns the prefix, the intermediates and the final byte.
     fn key(&self) -> &[u8] {
         match self.count {
             0 => &self.key[2..],
@@ -40,7 +40,7 @@ impl Parts<'_> {
     }
 }
 
-// The parts of a device control string of these bytes, if its header is whole.
+// Returns the parts of a device control string of these bytes, if its header is whole.
 fn parts_of(text: &[u8]) -> Option<Parts<'_>> {
     let mut parts = Parts {
         params: &[],
@@ -63,7 +63,7 @@ fn parts_of(text: &[u8]) -> Option<Parts<'_>> {
     None
 }
 
-// The parameters of a header: from the first digit on, up to a byte that is no parameter.
+// Returns the parameters of a header: from the first digit on, up to a byte that is no parameter.
 fn digits_in(header: &[u8]) -> &[u8] {
     let header = match header {
         [0x3c..=0x3f, rest @ ..] => rest,
@@ -114,7 +114,7 @@ fn add_sixel(parts: Parts<'_>, to: &mut Phrase) {
     }
 }
 
-// The width and the height of a sixel image. The error is that memory was refused.
+// Returns the width and the height of a sixel image. The error is that memory was refused.
 fn dimensions_of(parts: Parts<'_>, to: &Phrase) -> Result<(u32, u32), AllocError> {
     let mut numbers = Vec::new(to.alloc());
     let mut rest = Some(parts.params);
@@ -132,7 +132,7 @@ fn dimensions_of(parts: Parts<'_>, to: &Phrase) -> Result<(u32, u32), AllocError
     Ok(image.sixel.dimensions())
 }
 
-// The row of a device control string.
+// Returns the row of a device control string.
 fn row_of(parts: Parts<'_>) -> Option<Row> {
     let mut key: u32 = 1;
     for byte in parts.key() {
@@ -144,7 +144,7 @@ fn row_of(parts: Parts<'_>) -> Option<Row> {
     }
 }
 
-// The rest of the data after the beginning that a row has.
+// Returns the rest of the data after the beginning that a row has.
 fn data_rest(row: Row, data: &[u8]) -> &[u8] {
     if row.told.begin == Begin::Bytes {
         &data[row.start.len().min(data.len())..]

@@ -1,4 +1,4 @@
-//! From bytes to lines.
+//! This module makes lines of bytes.
 ghost use Rattle.std.specs.Prelude.{◌≤◌, length};
 
 use crate::carried::Carried;
@@ -30,10 +30,10 @@ pub struct Dump<'n> {
     framer: VTParser,
     words: Words,
     item: Item,
-    // Whether the bytes of the item are given to the framer.
+    // Says whether the bytes of the item are given to the framer.
     is_framed: bool,
-    // Whether the item is a string that is finished, and waits for the string terminator that ends
-    // it.
+    // Says whether the item is a string that is finished, and waits for the string terminator that
+    // ends it.
     is_closing: bool,
     carried: Carried,
     vt52: Vt52,
@@ -41,8 +41,8 @@ pub struct Dump<'n> {
     known: usize,
     // The kind of the segment that is begun.
     unfinished: SegmentKind,
-    // Whether the begun bytes may be a key; whether nothing comes after them; and whether a paste
-    // goes on.
+    // Says whether the begun bytes may be a key; whether nothing comes after them; and whether a
+    // paste goes on.
     is_waiting: bool,
     is_last: bool,
     is_pasting: bool,
@@ -51,7 +51,7 @@ pub struct Dump<'n> {
 }
 
 impl<'n> Dump<'n> {
-    /// Nothing came yet of the stream of this name.
+    /// Returns a dump of the stream of this name, to which nothing came.
     pub fn new(alloc: Global, options: Options<'n>, name: &'n str) -> Dump<'n> {
         let mut dump = Dump {
             alloc,
@@ -91,12 +91,12 @@ impl<'n> Dump<'n> {
         }
     }
 
-    /// The next bytes come at this time.
+    /// Sets the time at which the next bytes come.
     pub fn set_time(&mut self, time: u64) {
         self.item.now = Some(time);
     }
 
-    /// The lines since they were cleared.
+    /// Returns the lines since they were cleared.
     pub fn page(&mut self) -> &mut Page {
         &mut self.page
     }
@@ -261,8 +261,8 @@ impl<'n> Dump<'n> {
         self.keep(held);
     }
 
-    // The number of bytes of an unfinished segment that are held back: also an ESC that may begin
-    // the string terminator which a string waits for.
+    // Returns the number of bytes of an unfinished segment that are held back: also an ESC that may
+    // begin the string terminator which a string waits for.
     fn held_of(&self, segment: Segment<'_>) -> usize {
         if self.is_closing && segment.bytes == b"\x1b".as_slice() {
             1
@@ -354,8 +354,8 @@ impl<'n> Dump<'n> {
         }
     }
 
-    // Whether a string terminator may come after these last bytes of a segment: they end a string,
-    // and no BEL does.
+    // Returns whether a string terminator may come after these last bytes of a segment: they end a
+    // string, and no BEL does.
     fn may_close(&self, kind: SegmentKind, bytes: &[u8]) -> bool {
         match kind {
             SegmentKind::Dcs | SegmentKind::Apc | SegmentKind::Ignored => self.joins_terminators(),
@@ -364,7 +364,7 @@ impl<'n> Dump<'n> {
         }
     }
 
-    // Whether a string and the string terminator that ends it are one line.
+    // Returns whether a string and the string terminator that ends it are one line.
     fn joins_terminators(&self) -> bool {
         match self.options.form {
             Form::Segments => false,
@@ -405,8 +405,8 @@ impl<'n> Dump<'n> {
         self.words.clear();
     }
 
-    // Whether a line is printed for the item: by its kind, or if names are asked for, by its name
-    // too.
+    // Returns whether a line is printed for the item: by its kind, or if names are asked for, by
+    // its name too.
     fn is_selected(&mut self) -> bool {
         let only = self.options.only;
         let skip = self.options.skip;
@@ -447,7 +447,7 @@ impl<'n> Dump<'n> {
     }
 }
 
-// The number of bytes that the words of a line may have: any in objects.
+// Returns the number of bytes that the words of a line may have: any in objects.
 fn room_of(options: Options<'_>) -> usize {
     match options.form {
         Form::Json => usize::MAX,
@@ -455,7 +455,7 @@ fn room_of(options: Options<'_>) -> usize {
     }
 }
 
-// Whether these are the bytes of a string terminator.
+// Returns whether these are the bytes of a string terminator.
 fn is_terminator(bytes: &[u8]) -> bool {
     match bytes {
         b"\x1b\\" | b"\x9c" | b"\xc2\x9c" => true,
@@ -463,8 +463,8 @@ fn is_terminator(bytes: &[u8]) -> bool {
     }
 }
 
-// The number of bytes at the beginning that are characters of one byte: they are segments of their
-// own, if nothing before them is unfinished.
+// Returns the number of bytes at the beginning that are characters of one byte: they are segments
+// of their own, if nothing before them is unfinished.
 fn shown_run(bytes: &[u8]) -> usize
     ensures { result ≤ length bytes.now }
 {

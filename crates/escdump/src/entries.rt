@@ -2,13 +2,13 @@
 
 use esc_values::CsiParam;
 
-/// The number at this place, from 0 on, if there is one: the first of its parts, if it has several
-/// with `:` between them.
+/// Returns the number at this place, from 0 on, if there is one: the first of its parts, if it has
+/// several with `:` between them.
 pub fn number_at(params: &[CsiParam], place: usize) -> Option<i64> {
     part_at(params, place, 0)
 }
 
-/// The part of the parameter at this place, both from 0 on, if there is one.
+/// Returns the part of the parameter at this place, both from 0 on, if there is one.
 pub fn part_at(params: &[CsiParam], place: usize, part: usize) -> Option<i64> {
     let mut places_left = place;
     let mut parts_left = part;
@@ -39,8 +39,8 @@ pub fn part_at(params: &[CsiParam], place: usize, part: usize) -> Option<i64> {
     None
 }
 
-/// The parameters after the first ones, so many, with the `;` before them; nothing, if there are no
-/// more.
+/// Returns the parameters after the first ones, so many, with the `;` before them; nothing, if
+/// there are no more.
 pub fn after_first(params: &[CsiParam], count: usize) -> &[CsiParam] {
     let mut left = count;
     for at in 0..params.len() {
@@ -54,8 +54,8 @@ pub fn after_first(params: &[CsiParam], count: usize) -> &[CsiParam] {
     &[]
 }
 
-/// Whether the parameter is a private prefix or an intermediate: no number, and nothing that
-/// separates two.
+/// Returns whether the parameter is a private prefix or an intermediate: no number, and nothing
+/// that separates two.
 pub fn is_mark(param: CsiParam) -> bool {
     match param {
         CsiParam::P(b';') | CsiParam::P(b':') | CsiParam::Integer(_) => false,

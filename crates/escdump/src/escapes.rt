@@ -15,8 +15,8 @@ struct Parts {
     last: u8,
 }
 
-// The parts of an escape sequence with this letter after ESC, and these bytes after that. Controls
-// and bytes past 7E are none.
+// Returns the parts of an escape sequence with this letter after ESC, and these bytes after that.
+// Controls and bytes past 7E are none.
 fn parts_of(letter: u8, rest: &[u8]) -> Parts {
     let mut parts = Parts {
         first: 0,
@@ -78,7 +78,7 @@ fn add_function(intermediate: Option<u8>, last: u8, to: &mut Phrase) {
     }
 }
 
-// The description of a function. No terminal has `ESC Y` but as that of the VT52.
+// Returns the description of a function. No terminal has `ESC Y` but as that of the VT52.
 fn escape_words(function: EscapeFunction) -> &'static str {
     match function {
         EscapeFunction::SGC => {
@@ -94,7 +94,7 @@ const OTHER: &str = "another character set";
 // The same for controls.
 const OTHER_CONTROLS: &str = "another set of controls";
 
-// The sets, one of which a function designates, and the words for any other.
+// Returns the sets, one of which a function designates, and the words for any other.
 fn sets_of(function: EscapeFunction) -> Option<(&'static str, &'static str)> {
     let sets = match function {
         EscapeFunction::GZD4 | EscapeFunction::G1D4 | EscapeFunction::G2D4 | EscapeFunction::G3D4 =>
@@ -146,7 +146,7 @@ fn add_double(parts: Parts, to: &mut Phrase) {
     });
 }
 
-// The name and the words of these intermediates.
+// Returns the name and the words of these intermediates.
 fn double_in(bytes: &[u8]) -> Option<(&'static str, &'static str)> {
     for line in DOUBLES.lines() {
         if let Some((key, rest)) = line.split_once('^') {
@@ -158,7 +158,7 @@ fn double_in(bytes: &[u8]) -> Option<(&'static str, &'static str)> {
     None
 }
 
-// The name of the set of these bytes, or these words, if none has them.
+// Returns the name of the set of these bytes, or these words, if none has them.
 fn set_in(sets: &'static str, bytes: &[u8], other: &'static str) -> &'static str {
     for line in sets.lines() {
         if let Some((key, name)) = line.split_once(' ') {

@@ -57,7 +57,7 @@ enum Kind {
     None,
 }
 
-// The kind of this letter.
+// Returns the kind of this letter.
 fn kind_of(letter: &str) -> Kind {
     match letter {
         "n" => Kind::Number,
@@ -150,7 +150,7 @@ fn add_field<'t>(field: &'static str, text: &'t [u8], to: &mut Phrase) -> Option
     rest
 }
 
-// The separator of the pairs of a field.
+// Returns the separator of the pairs of a field.
 fn separator_of(kind: Kind) -> Option<u8> {
     match kind {
         Kind::Pairs => Some(b';'),

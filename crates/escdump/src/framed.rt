@@ -3,8 +3,8 @@
 use crate::item::Item;
 use esc_segments::SegmentKind;
 
-/// Whether a segment that comes in pieces is given to the framer: it is a control sequence, or one
-/// in which controls may be. Others leave the framer as it was.
+/// Returns whether a segment that comes in pieces is given to the framer: it is a control sequence,
+/// or one in which controls may be. Others leave the framer as it was.
 pub fn is_framed(kind: SegmentKind) -> bool {
     match kind {
         SegmentKind::Escape
@@ -22,13 +22,13 @@ pub fn is_framed(kind: SegmentKind) -> bool {
     }
 }
 
-/// Whether the last byte of a segment does not end it for the framer.
+/// Returns whether the last byte of a segment does not end it for the framer.
 pub fn is_left_open(kind: SegmentKind) -> bool {
     is_framed(kind) && kind != SegmentKind::Escape && kind != SegmentKind::Csi
 }
 
-/// Whether an item that came whole is a control sequence, or may have controls inside it: the
-/// controls of a string come before its text.
+/// Returns whether an item that came whole is a control sequence, or may have controls inside it:
+/// the controls of a string come before its text.
 pub fn may_hold_controls(kind: SegmentKind, item: &Item) -> bool {
     match kind {
         SegmentKind::Csi => true,
@@ -44,7 +44,7 @@ pub fn may_hold_controls(kind: SegmentKind, item: &Item) -> bool {
     }
 }
 
-// Whether bytes after the first are controls of C0.
+// Returns whether bytes after the first are controls of C0.
 fn has_control_after_first(bytes: &[u8]) -> bool {
     let mut has_any = false;
     if let [_, rest @ ..] = bytes {

@@ -8,9 +8,9 @@ use std::alloc::Global;
 /// The item that comes now: a run of text, or a segment.
 #[derive(Drop)]
 pub struct Item {
-    /// How many bytes of the stream come before it.
+    /// Says how many bytes of the stream come before it.
     pub place: u64,
-    /// How many bytes of it came.
+    /// Says how many bytes of it came.
     pub length: u64,
     /// The time of its first byte, in microseconds, if the stream has times.
     pub time: Option<u64>,
@@ -24,15 +24,15 @@ pub struct Item {
     sent: Option<Kind>,
     // The letter that opens it, as `]`; 0, if it has not come.
     letter: u8,
-    // How many of its bytes come up to that letter.
+    // Says how many of its bytes come up to that letter.
     opened: usize,
-    // How many of its bytes are the string terminator that ends it.
+    // Says how many of its bytes are the string terminator that ends it.
     closed: usize,
     bytes: Vec<u8>,
 }
 
 impl Item {
-    /// Nothing, at the beginning of a stream. Takes no memory.
+    /// Returns an empty item, at the beginning of a stream. Takes no memory.
     pub fn new(alloc: Global) -> Item {
         Item {
             place: 0,
@@ -49,17 +49,17 @@ impl Item {
         }
     }
 
-    /// Whether no byte of it came.
+    /// Returns whether no byte of it came.
     pub fn is_empty(&self) -> bool {
         self.length == 0
     }
 
-    /// Whether it is a run of text.
+    /// Returns whether it is a run of text.
     pub fn is_text(&self) -> bool {
         self.length > 0 && self.segment == SegmentKind::Character
     }
 
-    /// Its kind.
+    /// Returns its kind.
     pub fn kind(&self) -> Kind {
         match self.sent {
             Some(kind) => kind,
@@ -125,18 +125,18 @@ impl Item {
         &[]
     }
 
-    /// Whether bytes come between ESC and the letter that opens it.
+    /// Returns whether bytes come between ESC and the letter that opens it.
     pub fn has_controls(&self) -> bool {
         self.opened > 2
     }
 
-    /// The bytes that are kept.
+    /// Returns the bytes that are kept.
     pub fn bytes(&self) -> &[u8] {
         &self.bytes
     }
 
-    /// The bytes after the opener of a sequence or a string, without the BEL or the final byte that
-    /// ends one.
+    /// Returns the bytes after the opener of a sequence or a string, without the BEL or the final
+    /// byte that ends one.
     pub fn body(&self) -> &[u8] {
         if self.letter == 0 || self.opened > self.bytes.len() {
             return &[];
@@ -150,23 +150,23 @@ impl Item {
         }
     }
 
-    /// The letter that opens it, as `]`, and those that come after it; for an escape sequence its
-    /// intermediates and its final byte.
+    /// Returns the letter that opens it, as `]`, and those that come after it; for an escape
+    /// sequence its intermediates and its final byte.
     pub fn letters(&self) -> (u8, &[u8]) {
         (self.letter, self.body())
     }
 
-    /// Whether it has the string terminator that ends it.
+    /// Returns whether it has the string terminator that ends it.
     pub fn is_closed(&self) -> bool {
         self.closed > 0
     }
 
-    /// Whether not all of its bytes are kept.
+    /// Returns whether not all of its bytes are kept.
     pub fn is_cut(&self) -> bool {
         self.length > self.bytes.len() as u64
     }
 
-    /// The next item has its place after it.
+    /// Ends the item: the next one has its place after it.
     pub fn end(&mut self) {
         self.place = self.place.saturating_add(self.length);
         self.length = 0;

@@ -275,7 +275,7 @@ pub fn add_bits(
     has_any
 }
 
-// Whether a number has the bit that a text is in decimal.
+// Returns whether a number has the bit that a text is in decimal.
 fn has_bit(number: i64, text: &str) -> bool {
     match number_in(text.as_bytes()) {
         Some(bit) => number & bit != 0,
@@ -302,7 +302,7 @@ pub fn add_flags(function: ControlFunction, params: &[CsiParam], to: &mut Phrase
     }
 }
 
-// The flags if they are left out; none for a query, which asks for them.
+// Returns the flags if they are left out; none for a query, which asks for them.
 fn least_flags(function: ControlFunction) -> Option<i64> {
     if function == ControlFunction::KITTYQUERY {
         return None;

@@ -44,7 +44,7 @@ pub const KINDS: &[&str] = &[
 ];
 
 impl Kind {
-    /// The kind of a segment that this letter opens.
+    /// Returns the kind of a segment that this letter opens.
     pub fn of(segment: SegmentKind, letter: u8) -> Kind {
         match segment {
             SegmentKind::Character => Kind::Text,
@@ -63,12 +63,12 @@ impl Kind {
         }
     }
 
-    /// Its bit: that of its word in [`KINDS`].
+    /// Returns its bit: that of its word in [`KINDS`].
     pub fn bit(self) -> u64 {
         1u64.wrapping_shl(self as u32)
     }
 
-    /// Its word.
+    /// Returns its word.
     pub fn word(self) -> &'static str {
         match KINDS.get(self as usize) {
             Some(word) => *word,
@@ -76,7 +76,7 @@ impl Kind {
         }
     }
 
-    /// Its name.
+    /// Returns its name.
     pub fn name(self) -> &'static str {
         match self {
             Kind::Text => "text",
@@ -112,7 +112,7 @@ impl Kind {
         }
     }
 
-    /// Whether it is a string: it has a text.
+    /// Returns whether it is a string: it has a text.
     pub fn is_string(self) -> bool {
         matches!(
             self,

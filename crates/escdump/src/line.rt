@@ -32,7 +32,7 @@ const SECONDS: usize = 6;
 
 const TIME: usize = 15;
 
-// How many columns of bytes come before words; the last character may go past them.
+// Says how many columns of bytes come before words; the last character may go past them.
 const ROOM: usize = 18;
 
 // The most bytes of a column: a character and three marks on it.
@@ -58,7 +58,7 @@ pub fn add_line(
     page.end_line();
 }
 
-// The time, if there is one, and the place.
+// Adds the time, if there is one, and the place.
 fn add_place(item: &Item, page: &mut Page) {
     let start = time_columns(item);
     if let Some(time) = item.time {
@@ -77,12 +77,12 @@ fn add_place(item: &Item, page: &mut Page) {
     }
 }
 
-// How many columns the time takes.
+// Returns how many columns the time takes.
 fn time_columns(item: &Item) -> usize {
     if item.time.is_some() { TIME } else { 0 }
 }
 
-// The place and the length of a segment, its kind, and its bytes.
+// Adds the place and the length of a segment, its kind, and its bytes.
 fn add_segment(item: &Item, is_finished: bool, width: usize, page: &mut Page) {
     add_place(item, page);
     let start = time_columns(item);
@@ -99,13 +99,13 @@ fn add_segment(item: &Item, is_finished: bool, width: usize, page: &mut Page) {
     push_bytes(item, width, page);
 }
 
-// The words for a kind.
+// Returns the words for a kind.
 fn full_name(kind: Kind) -> &'static str {
     let words = kind.words();
     if words.is_empty() { kind.name() } else { words }
 }
 
-// The bytes that are kept, in so many columns, and `..` if not all are.
+// Adds the bytes that are kept, in so many columns, and `..` if not all are.
 fn push_bytes(item: &Item, width: usize, page: &mut Page) {
     page.color(Color::Bytes);
     page.words().add_bytes(item.bytes(), width);
@@ -116,7 +116,7 @@ fn push_bytes(item: &Item, width: usize, page: &mut Page) {
     page.color(Color::Plain);
 }
 
-// The place, the first bytes, and the words.
+// Adds the place, the first bytes, and the words.
 fn add_words(item: &Item, words: &mut Words, is_finished: bool, page: &mut Page) {
     add_place(item, page);
     let known = columns_of(item, words, page);
@@ -134,8 +134,8 @@ fn add_words(item: &Item, words: &mut Words, is_finished: bool, page: &mut Page)
     page.push(&words.phrase);
 }
 
-// The bytes and the words of a common control, if nothing else is in its line, and its place has
-// not more digits than its column.
+// Returns the bytes and the words of a common control, if nothing else is in its line, and its
+// place has not more digits than its column.
 fn columns_of(item: &Item, words: &Words, page: &Page) -> &'static str {
     if item.kind() == Kind::Control
         && !words.is_carried
@@ -158,7 +158,7 @@ fn add_carried(item: &Item, words: &mut Words) {
     }
 }
 
-// A run of text, as far as there is room.
+// Adds a run of text, as far as there is room.
 fn add_text(item: &Item, words: &mut Words, page: &mut Page) {
     let bytes = item.bytes();
     if bytes.len() <= words.room() && !words.is_carried {
@@ -175,7 +175,7 @@ fn add_text(item: &Item, words: &mut Words, page: &mut Page) {
     page.push(&words.phrase);
 }
 
-// The first bytes. Bytes past the column are not read.
+// Adds the first bytes. Bytes past the column are not read.
 fn add_first(item: &Item, page: &mut Page) {
     let bytes = item.bytes();
     let most = bytes.len().min(WIDEST * ROOM + WIDEST);
@@ -227,8 +227,8 @@ pub fn add_said(item: &Item, words: &mut Words) {
     }
 }
 
-// The words for a sequence that is cut short and may be another: screen passes on the bytes after
-// ESC P.
+// Returns the words for a sequence that is cut short and may be another: screen passes on the bytes
+// after ESC P.
 fn cut_words(item: &Item) -> &'static str {
     match item.letters() {
         (b'P', []) => ", or what comes next is passed on by screen",

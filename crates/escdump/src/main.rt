@@ -113,7 +113,7 @@ fn main(rt: HostRuntime) -> ExitCode {
     ExitCode::from(status)
 }
 
-// Whether lines have colours.
+// Returns whether lines have colours.
 fn is_colored(rt: &HostRuntime, colors: When) -> bool {
     match colors {
         When::Always => true,
@@ -122,7 +122,7 @@ fn is_colored(rt: &HostRuntime, colors: When) -> bool {
     }
 }
 
-// Whether the environment has a `NO_COLOR` that is not empty (<https://no-color.org/>).
+// Returns whether the environment has a `NO_COLOR` that is not empty (<https://no-color.org/>).
 fn has_no_color(rt: &HostRuntime) -> bool {
     match env::var(rt, "NO_COLOR") {
         Ok(value) => !value.is_empty(),
@@ -131,7 +131,7 @@ fn has_no_color(rt: &HostRuntime) -> bool {
     }
 }
 
-// Whether the terminal knows no sequences, by its name in the environment.
+// Returns whether the terminal knows no sequences, by its name in the environment.
 fn is_dumb(rt: &HostRuntime) -> bool {
     match env::var(rt, "TERM") {
         Ok(value) => value.as_str() == "dumb",
@@ -139,8 +139,8 @@ fn is_dumb(rt: &HostRuntime) -> bool {
     }
 }
 
-// The number of bytes that the words of a line may have, if it is not given: on a terminal 4 KiB,
-// and any elsewhere.
+// Returns the number of bytes that the words of a line may have, if it is not given: on a terminal
+// 4 KiB, and any elsewhere.
 fn width_of(rt: &HostRuntime, width: Option<usize>) -> usize {
     match width {
         Some(width) => width,
@@ -182,7 +182,7 @@ fn dump_task(rt: &HostRuntime, options: Options<'_>, task: &Task<'_>) -> u8 {
     )
 }
 
-// The options with this timing.
+// Returns the options with this timing.
 fn timed<'a>(options: Options<'a>, timing: &'a [u8]) -> Options<'a> {
     Options { timing, ..options }
 }

@@ -195,8 +195,8 @@ fn add_mode(function: ControlFunction, number: i64, to: &mut Phrase) {
     }
 }
 
-// The effect of setting or resetting a mode that terminals have (xterm's list, "Set Mode" and
-// "Reset Mode"), or these words, for another mode or function.
+// Returns the effect of setting or resetting a mode that terminals have (xterm's list, "Set Mode"
+// and "Reset Mode"), or these words, for another mode or function.
 fn effect_of(function: ControlFunction, number: i64, words: &'static str) -> &'static str {
     match number {
         2 => chosen(function, "lock the keyboard", "unlock the keyboard", words),
@@ -250,12 +250,12 @@ fn add_private_mode(function: ControlFunction, number: i64, to: &mut Phrase) {
     }
 }
 
-// The operation of the function on a mode, if its own words do not say it.
+// Returns the operation of the function on a mode, if its own words do not say it.
 fn verb_of(function: ControlFunction) -> &'static str {
     chosen(function, "set", "reset", "")
 }
 
-// The row of the private mode of this number.
+// Returns the row of the private mode of this number.
 fn phrases_of(number: i64) -> Option<&'static Phrases> {
     for phrases in &PHRASES {
         if phrases.0 == number {
@@ -265,7 +265,7 @@ fn phrases_of(number: i64) -> Option<&'static Phrases> {
     None
 }
 
-// The words of a function that sets or resets modes, or these of another.
+// Returns the words of a function that sets or resets modes, or these of another.
 fn chosen(
     function: ControlFunction,
     set: &'static str,
@@ -297,7 +297,7 @@ pub fn add_state(function: ControlFunction, params: &[CsiParam], to: &mut Phrase
     }
 }
 
-// The number of a mode; one that no mode has, if it is longer than any.
+// Returns the number of a mode; one that no mode has, if it is longer than any.
 fn short(number: i64) -> u32 {
     u32::try_from(number).unwrap_or(u32::MAX)
 }

@@ -1,7 +1,7 @@
 //! Words for numbers.
 
-/// The words of this number in a table, or these others, if it has none. A table is a text with a
-/// line for each number: the number, a space and its words.
+/// Returns the words of this number in a table, or these others, if it has none. A table is a text
+/// with a line for each number: the number, a space and its words.
 pub fn words_of(table: &'static str, number: i64, others: &'static str) -> &'static str {
     for line in table.lines() {
         if let Some((key, words)) = line.split_once(' ') {
@@ -13,7 +13,7 @@ pub fn words_of(table: &'static str, number: i64, others: &'static str) -> &'sta
     others
 }
 
-// Whether a text is this number in decimal.
+// Returns whether a text is this number in decimal.
 fn is_number(text: &str, number: i64) -> bool {
     match text.parse::<i64>() {
         Ok(found) => found == number,

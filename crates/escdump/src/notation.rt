@@ -2,7 +2,8 @@
 
 use std::alloc::{AllocError, Global};
 
-/// The bytes that a word stands for, in the notations of shells and of programs that show bytes:
+/// Returns the bytes that a word stands for, in the notations of shells and of programs that show
+/// bytes:
 /// `\e` and `\E` for ESC, `\033` in octal digits, `\x1b` in hexadecimal ones, `\u001b`,
 /// `\U0000001b` and `\u{1b}` for a character, `\a`, `\b`, `\f`, `\n`, `\r`, `\t` and `\v`, and `^[`
 /// for a control, but not right after ESC, which opens a privacy message with it. Any other byte
@@ -71,7 +72,7 @@ fn take_escape<'t>(text: &'t [u8], bytes: &mut Vec<u8>) -> Result<&'t [u8], Allo
     }
 }
 
-// The byte that a letter after a `\` stands for.
+// Returns the byte that a letter after a `\` stands for.
 fn control_of(letter: u8) -> u8 {
     match letter {
         b'e' | b'E' => 0x1b,
@@ -90,12 +91,12 @@ fn control_of(letter: u8) -> u8 {
 #[derive(Clone, Copy)]
 struct Counted<'t> {
     number: u32,
-    // How many digits it has.
+    // Says how many digits it has.
     count: usize,
     rest: &'t [u8],
 }
 
-// The number of the digits, of this base and at most so many, that a text begins with.
+// Returns the number of the digits, of this base and at most so many, that a text begins with.
 fn number_of(base: u32, most: usize, text: &[u8]) -> Counted<'_> {
     let mut found = Counted {
         number: 0,

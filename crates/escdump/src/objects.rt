@@ -63,7 +63,7 @@ fn add_head(item: &Item, kind: Kind, is_finished: bool, object: &mut Phrase) {
     object.add_member(Member::Name);
 }
 
-// Whether something is so, in JSON.
+// Returns whether something is so, in JSON.
 fn bool_words(is_so: bool) -> &'static str {
     if is_so { "true" } else { "false" }
 }
@@ -123,7 +123,7 @@ fn add_values(words: &[u8], object: &mut Phrase) {
     }
 }
 
-// How many bytes come before the `"` that ends a text: the first that no `\` escapes.
+// Returns how many bytes come before the `"` that ends a text: the first that no `\` escapes.
 fn quoted_length(bytes: &[u8]) -> usize {
     let mut is_escaped = false;
     for at in 0..bytes.len() {
@@ -198,7 +198,7 @@ fn add_digits(bytes: &[u8], phrase: &mut Phrase) {
     }
 }
 
-// How many of these bytes come first.
+// Returns how many of these bytes come first.
 fn digit_run(bytes: &[u8]) -> usize {
     for at in 0..bytes.len() {
         if !matches!(bytes[at], b'0'..=b';') {

@@ -33,8 +33,8 @@ pub enum Recorded {
 /// When lines have colours.
 #[derive(Clone, Copy)]
 pub enum When {
-    /// On a terminal, unless the environment has a `NO_COLOR` that is not empty, or names the
-    /// terminal `dumb`.
+    /// Colours come on a terminal, unless the environment has a `NO_COLOR` that is not empty, or
+    /// names the terminal `dumb`.
     Auto,
     /// Always.
     Always,
@@ -42,24 +42,24 @@ pub enum When {
     Never,
 }
 
-/// How streams are printed.
+/// Says how streams are printed.
 #[derive(Clone, Copy)]
 pub struct Options<'a> {
     /// The unit that has a line of its own.
     pub form: Form,
     /// The form of the bytes of a file.
     pub recorded: Recorded,
-    /// Whether a stream is the input that a terminal sends, and not the output that it gets.
+    /// Says whether a stream is the input that a terminal sends, and not the output that it gets.
     pub is_input: bool,
     /// The timing of a typescript.
     pub timing: &'a [u8],
-    /// How many bytes are kept of a segment.
+    /// Says how many bytes are kept of a segment.
     pub limit: usize,
-    /// How many bytes the words of a line may have, and its bytes.
+    /// Says how many bytes the words of a line may have, and its bytes.
     pub width: usize,
-    /// Whether the lines have colours.
+    /// Says whether the lines have colours.
     pub is_colored: bool,
-    /// Whether each stream is named.
+    /// Says whether each stream is named.
     pub is_named: bool,
     /// The lines that are printed.
     pub only: Listed<'a>,
@@ -83,7 +83,7 @@ pub enum Kind {
 pub struct Task<'a> {
     /// The work of the program.
     pub kind: Kind,
-    /// How streams are printed.
+    /// Says how streams are printed.
     pub options: Options<'a>,
     /// When lines have colours.
     pub colors: When,
@@ -181,8 +181,8 @@ const KNOWN: &[Known] = &[
 ];
 
 impl<'a> Task<'a> {
-    /// The task that these words, the program's arguments, name. If an option is given twice, the
-    /// last counts, and so does the last of the forms.
+    /// Returns the task that these words, the program's arguments, name. If an option is given
+    /// twice, the last counts, and so does the last of the forms.
     pub fn of(alloc: Global, words: &'a [String]) -> Result<Task<'a>, Wrong<'a>> {
         match read(alloc, KNOWN, words) {
             Ok(found) => Task::from_found(found),
@@ -190,7 +190,7 @@ impl<'a> Task<'a> {
         }
     }
 
-    // The task that these options and files name.
+    // Returns the task that these options and files name.
     fn from_found(found: Found<'a>) -> Result<Task<'a>, Wrong<'a>> {
         let mut task = Task {
             kind: Kind::Dump,
@@ -251,7 +251,7 @@ const DEFAULT: Options<'static> = Options {
     skip: Listed::NONE,
 };
 
-// The list that this option has.
+// Returns the list that this option has.
 fn listed<'a>(option: &'static str, list: &'a str) -> Result<Listed<'a>, Wrong<'a>> {
     match Listed::of(list) {
         Ok(listed) => Ok(listed),

@@ -6,7 +6,7 @@ use crate::values::{add_pairs, cut};
 use dump_page::{Key, Name, Phrase};
 use string_commands::{Begin, Row, StringKind, find};
 
-// The letter that a text begins with.
+// Returns the letter that a text begins with.
 fn letter_of(text: &[u8]) -> Key {
     match text {
         [first, ..] if first.is_ascii_alphabetic() => Key::Bytes([0, 0, *first]),
@@ -48,7 +48,7 @@ fn add_numbered(name: Name, number: u64, rest: Option<&[u8]>, is_whole: bool, to
     }
 }
 
-// The row of a command of this number.
+// Returns the row of a command of this number.
 fn row_of(number: u64, rest: &[u8]) -> Option<Row> {
     match u32::try_from(number) {
         Ok(number) => find(StringKind::Osc, number, &[], rest),
@@ -69,7 +69,7 @@ fn add_row(name: Name, row: Row, rest: Option<&[u8]>, is_whole: bool, to: &mut P
     }
 }
 
-// The rest of a text after the beginning that a row has, and the byte after that.
+// Returns the rest of a text after the beginning that a row has, and the byte after that.
 fn fields_after(row: Row, rest: Option<&[u8]>) -> Option<&[u8]> {
     match rest {
         Some(text) if row.told.begin == Begin::Part => {
@@ -83,7 +83,7 @@ fn fields_after(row: Row, rest: Option<&[u8]>) -> Option<&[u8]> {
     }
 }
 
-// Whether there is no text.
+// Returns whether there is no text.
 fn is_empty(text: Option<&[u8]>) -> bool {
     match text {
         Some(text) => text.is_empty(),
@@ -113,7 +113,7 @@ fn add_lettered(name: Name, letter: u8, text: &[u8], to: &mut Phrase) {
     }
 }
 
-// A link, or the end of one.
+// Adds a link, or the end of one.
 fn add_link(name: Name, rest: Option<&[u8]>, is_whole: bool, to: &mut Phrase) {
     let (params, address) = cut(rest.unwrap_or(b""), b';');
     let address = address.unwrap_or(b"");
@@ -133,15 +133,15 @@ fn add_link(name: Name, rest: Option<&[u8]>, is_whole: bool, to: &mut Phrase) {
     add_params(params, to);
 }
 
-// The parameters of a link.
+// Adds the parameters of a link.
 fn add_params(params: &[u8], to: &mut Phrase) {
     if !params.is_empty() {
         add_pairs(b':', "", params, to);
     }
 }
 
-// The clipboard: the text that is copied to it, or that it is asked for or cleared. Its text is
-// shown as the bytes that it stands for.
+// Adds the words for the clipboard: the text that is copied to it, or that it is asked for or
+// cleared. The text is shown as the bytes that it stands for.
 fn add_clipboard(name: Name, rest: Option<&[u8]>, is_whole: bool, to: &mut Phrase) {
     to.begin_named(name, "clipboard");
     let (selection, text) = cut(rest.unwrap_or(b""), b';');

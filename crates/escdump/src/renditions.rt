@@ -92,7 +92,7 @@ static RENDITIONS: [Numbered; 74] = [
     Numbered(107, "background bright white"),
 ];
 
-// The words of the rendition of this number.
+// Returns the words of the rendition of this number.
 fn words_at(number: i64) -> &'static str {
     for rendition in &RENDITIONS {
         if rendition.0 == number {

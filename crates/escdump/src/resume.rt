@@ -1,8 +1,8 @@
-//! How an unfinished segment goes on.
+//! This module says how an unfinished segment goes on.
 
 use esc_segments::{Segment, SegmentKind};
 
-/// Some bytes that are as unfinished as this segment without the bytes that are [held
+/// Returns some bytes that are as unfinished as this segment without the bytes that are [held
 /// back](held_back): whatever follows goes on in the same way. So no byte of a long segment has to
 /// be looked at twice.
 pub fn resumed(segment: Segment<'_>) -> &'static [u8] {
@@ -22,8 +22,8 @@ pub fn resumed(segment: Segment<'_>) -> &'static [u8] {
     }
 }
 
-// The opener of a sequence that is cut short: a control sequence, a device control string, or an
-// escape sequence without or with intermediates.
+// Returns the opener of a sequence that is cut short: a control sequence, a device control string,
+// or an escape sequence without or with intermediates.
 fn opening(bytes: &[u8]) -> &'static [u8] {
     match bytes {
         [0x1b, rest @ ..] => {
@@ -42,9 +42,9 @@ fn opening(bytes: &[u8]) -> &'static [u8] {
     }
 }
 
-/// The number of bytes at the end of this unfinished segment that may turn out to belong to the
-/// next: those of a character that is begun in the text of an operating system command, since C2
-/// may be half of a control, and of one that is begun in text.
+/// Returns the number of bytes at the end of this unfinished segment that may turn out to belong to
+/// the next: those of a character that is begun in the text of an operating system command, since
+/// C2 may be half of a control, and of one that is begun in text.
 pub fn held_back(segment: Segment<'_>) -> usize {
     match segment.kind {
         SegmentKind::Osc => begun_character(segment.bytes),
@@ -62,8 +62,8 @@ pub fn held_back(segment: Segment<'_>) -> usize {
     }
 }
 
-// The number of bytes of an operating system command's text from the last one on that begins a
-// character, if that is one of the last three.
+// Returns the number of bytes of an operating system command's text from the last one on that
+// begins a character, if that is one of the last three.
 fn begun_character(bytes: &[u8]) -> usize {
     let opener = match bytes {
         [0xc2, ..] => 2,

@@ -15,7 +15,7 @@ pub struct Row {
     pub more: &'static str,
 }
 
-// The row of these parts after the first.
+// Returns the row of these parts after the first.
 fn row_of(line: &'static str) -> Option<Row> {
     let (key, rest) = line.split_once('^')?;
     let (words, rest) = rest.split_once('^')?;
@@ -31,8 +31,8 @@ fn row_of(line: &'static str) -> Option<Row> {
     })
 }
 
-/// The first row of a table that begins with this and fits a text, and the rest of the text after
-/// its key.
+/// Returns the first row of a table that begins with this and fits a text, and the rest of the text
+/// after its key.
 pub fn find_row<'t>(
     table: &'static str,
     head: &[u8],
@@ -48,7 +48,7 @@ pub fn find_row<'t>(
     None
 }
 
-// The row of a line, if it begins with this.
+// Returns the row of a line, if it begins with this.
 fn headed(line: &'static str, head: &[u8]) -> Option<Row> {
     match line.split_once('^') {
         Some((found, rest)) if found.as_bytes() == head => row_of(rest),
@@ -56,7 +56,8 @@ fn headed(line: &'static str, head: &[u8]) -> Option<Row> {
     }
 }
 
-/// The rest of a text after a key, if it begins with that: after a `;` or a `=`, or nothing. A key
+/// Returns the rest of a text after a key, if it begins with that: after a `;` or a `=`, or
+/// nothing. A key
 /// `-` is that of no text, `++` of one of three parts or more, one that ends with `+` of a text
 /// that has more after it, and one that ends with `.` of a text that has not.
 pub fn key_rest<'t>(key: &'static str, text: Option<&'t [u8]>) -> Option<Option<&'t [u8]>> {
@@ -92,7 +93,7 @@ pub fn key_rest<'t>(key: &'static str, text: Option<&'t [u8]>) -> Option<Option<
     }
 }
 
-// Whether a text has two `;` or more.
+// Returns whether a text has two `;` or more.
 fn has_two(text: &[u8]) -> bool {
     match cut(text, b';') {
         (_, Some(rest)) => cut(rest, b';').1.is_some(),
@@ -100,7 +101,7 @@ fn has_two(text: &[u8]) -> bool {
     }
 }
 
-// The rest of a text after a key that it begins with.
+// Returns the rest of a text after a key that it begins with.
 fn after_key<'t>(key: &[u8], text: &'t [u8]) -> Option<Option<&'t [u8]>> {
     if text == key {
         return Some(None);

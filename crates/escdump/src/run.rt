@@ -28,7 +28,7 @@ pub enum Fault {
     Memory,
 }
 
-// How much is read at a call.
+// Says how much is read at a call.
 const CHUNK: usize = 4096;
 
 /// Prints streams to one output.
@@ -111,8 +111,8 @@ fn push_lines(text: &'static str, page: &mut Page) {
     }
 }
 
-/// The end of the stream of this name, after this result. A line on `faults` says the fault; but if
-/// nobody reads the output any more, none is written.
+/// Returns the end of the stream of this name, after this result. A line on `faults` says the
+/// fault; but if nobody reads the output any more, none is written.
 pub fn ended<E: Write>(done: Result<(), Fault>, name: &str, faults: &mut E) -> Ended
     ensures { result ≡ Ended.Whole → done ≡ Ok tt }
 {
@@ -150,7 +150,7 @@ fn dump<R: Read, W: Write>(
     dump_all(&mut source, &mut dump, input, output)
 }
 
-// The same, by way of this dump, to which nothing came yet, from this source.
+// Does the same, by way of this dump, to which nothing came yet, from this source.
 #[tactic(auto, using(dump_page::proofs::PagesMore::no_pages))]
 fn dump_all<R: Read, W: Write>(
     source: &mut Source<'_>,

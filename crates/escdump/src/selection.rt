@@ -1,4 +1,4 @@
-//! Which lines are printed, by kinds and by names.
+//! This module says which lines are printed, by kinds and by names.
 
 use crate::item::Item;
 use crate::kind::{KINDS, Kind};
@@ -27,8 +27,8 @@ impl<'a> Listed<'a> {
         names: "",
     };
 
-    /// The list that a word is; or the first part of it that is neither a kind nor a name. A name
-    /// has a letter that is none of a to z, or a space.
+    /// Returns the list that a word is; or the first part of it that is neither a kind nor a name.
+    /// A name has a letter that is none of a to z, or a space.
     pub fn of(list: &'a str) -> Result<Listed<'a>, &'a str> {
         let mut kinds = 0;
         let mut has_names = false;
@@ -43,17 +43,17 @@ impl<'a> Listed<'a> {
         Ok(Listed { kinds, names })
     }
 
-    /// Whether it has names.
+    /// Returns whether it has names.
     pub fn has_names(self) -> bool {
         !self.names.is_empty()
     }
 
-    /// Whether it has this kind.
+    /// Returns whether it has this kind.
     pub fn has_kind(self, kind: Kind) -> bool {
         self.kinds & kind.bit() != 0
     }
 
-    /// Whether it has the kind or the name of an item, which has this name.
+    /// Returns whether it has the kind or the name of an item, which has this name.
     pub fn has(self, item: &Item, name: Name) -> bool {
         if self.has_kind(item.kind()) {
             return true;
@@ -70,7 +70,7 @@ impl<'a> Listed<'a> {
     }
 }
 
-// The bit of the kind of this word.
+// Returns the bit of the kind of this word.
 fn bit_of(word: &str) -> Option<u64> {
     let mut bit: u64 = 1;
     for kind in KINDS {
@@ -82,7 +82,7 @@ fn bit_of(word: &str) -> Option<u64> {
     None
 }
 
-// Whether a word may be a name.
+// Returns whether a word may be a name.
 fn is_name(word: &str) -> bool {
     for byte in word.as_bytes() {
         if !byte.is_ascii_lowercase() {
@@ -92,7 +92,7 @@ fn is_name(word: &str) -> bool {
     false
 }
 
-/// The kind whose word begins with this one, or the other way round.
+/// Returns the kind whose word begins with this one, or the other way round.
 pub fn near_kind(word: &str) -> Option<&'static str> {
     if word.is_empty() {
         return None;
@@ -105,8 +105,8 @@ pub fn near_kind(word: &str) -> Option<&'static str> {
     None
 }
 
-// Whether a word names an item that has this name: by its kind, as `OSC`, by its name, with its
-// kind or without, as `CSI SGR` or `SGR`, and after that by a parameter that it has.
+// Returns whether a word names an item that has this name: by its kind, as `OSC`, by its name, with
+// its kind or without, as `CSI SGR` or `SGR`, and after that by a parameter that it has.
 fn is_of(word: &str, item: &Item, name: Name) -> bool {
     let Name(kind, own, key) = name;
     let after_kind = after(word, kind);
@@ -124,7 +124,7 @@ fn is_of(word: &str, item: &Item, name: Name) -> bool {
     is_named(word, own, item)
 }
 
-// Whether this is a name, or a name and a parameter of the item.
+// Returns whether this is a name, or a name and a parameter of the item.
 fn is_named(word: &str, own: &'static str, item: &Item) -> bool {
     match after(word, own) {
         Some("") => true,
@@ -133,7 +133,7 @@ fn is_named(word: &str, own: &'static str, item: &Item) -> bool {
     }
 }
 
-// The rest of a word after this one and a space; nothing, if it is the whole.
+// Returns the rest of a word after this one and a space; nothing, if it is the whole.
 fn after<'w>(word: &'w str, first: &'static str) -> Option<&'w str> {
     let rest = word.strip_prefix(first)?;
     if rest.is_empty() {
@@ -145,7 +145,7 @@ fn after<'w>(word: &'w str, first: &'static str) -> Option<&'w str> {
     }
 }
 
-// Whether this is the kind of a key, or nothing.
+// Returns whether this is the kind of a key, or nothing.
 fn is_key(word: &str, key: Key) -> bool {
     if word.is_empty() {
         return true;
@@ -157,7 +157,7 @@ fn is_key(word: &str, key: Key) -> bool {
     }
 }
 
-// Whether a word is this number.
+// Returns whether a word is this number.
 fn is_number(word: &str, number: u64) -> bool {
     match number_in(word.as_bytes()) {
         Some(found) => found >= 0 && found.unsigned_abs() == number,
@@ -165,7 +165,7 @@ fn is_number(word: &str, number: u64) -> bool {
     }
 }
 
-// Whether a word is these bytes, without those that are 0.
+// Returns whether a word is these bytes, without those that are 0.
 fn is_bytes(word: &[u8], bytes: [u8; 3]) -> bool {
     let mut rest = word;
     for byte in bytes {
@@ -180,7 +180,7 @@ fn is_bytes(word: &[u8], bytes: [u8; 3]) -> bool {
     rest.is_empty()
 }
 
-// Whether a control sequence has this parameter.
+// Returns whether a control sequence has this parameter.
 fn has_parameter(item: &Item, word: &str) -> bool {
     if item.kind() != Kind::Csi {
         return false;
@@ -199,13 +199,13 @@ fn has_parameter(item: &Item, word: &str) -> bool {
     false
 }
 
-/// The parameters of a control sequence, without the private prefix before them, and with the bytes
-/// after them.
+/// Returns the parameters of a control sequence, without the private prefix before them, and with
+/// the bytes after them.
 pub fn numbers_of(item: &Item) -> &[u8] {
     without_prefix(item.body())
 }
 
-/// The parameters of a control sequence without the private prefix before them.
+/// Returns the parameters of a control sequence without the private prefix before them.
 pub fn without_prefix(body: &[u8]) -> &[u8] {
     match body {
         [0x3c..=0x3f, rest @ ..] => rest,

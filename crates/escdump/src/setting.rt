@@ -7,7 +7,7 @@ use dump_page::Phrase;
 use esc_values::CsiParam;
 use std::alloc::{AllocError, Global};
 
-// How many numbers and other entries the parameters may have.
+// Says how many numbers and other entries the parameters may have.
 const MOST: usize = 256;
 
 /// Adds a setting in words: it is reported as the control sequence that sets it, without its opener
@@ -29,7 +29,7 @@ pub fn add_setting(label: &'static str, text: &[u8], to: &mut Phrase) {
     }
 }
 
-// The bytes before the final byte of a control sequence, and that byte.
+// Returns the bytes before the final byte of a control sequence, and that byte.
 fn halves_of(text: &[u8]) -> Option<(&[u8], u8)> {
     match text {
         [first @ .., last @ 0x40..=0x7e] => Some((first, *last)),
@@ -37,7 +37,7 @@ fn halves_of(text: &[u8]) -> Option<(&[u8], u8)> {
     }
 }
 
-// The entries of these bytes, if they are the parameters and the intermediates of a control
+// Returns the entries of these bytes, if they are the parameters and the intermediates of a control
 // sequence. The error is that memory was refused.
 fn params_of(text: &[u8], alloc: Global) -> Result<Option<Vec<CsiParam>>, AllocError> {
     let mut params = Vec::new(alloc);
@@ -67,7 +67,7 @@ fn params_of(text: &[u8], alloc: Global) -> Result<Option<Vec<CsiParam>>, AllocE
     Ok(Some(params))
 }
 
-// A number with one digit more.
+// Returns a number with one digit more.
 fn with_digit(number: Option<i64>, digit: u8) -> i64 {
     number
         .unwrap_or(0)

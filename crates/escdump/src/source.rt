@@ -1,4 +1,4 @@
-//! From the bytes of a file to a stream: it is one, or a recording of one.
+//! This module reads a stream from the bytes of a file: they are one, or a recording of one.
 
 use crate::dump::Dump;
 use crate::options::{Options, Recorded};
@@ -9,14 +9,14 @@ use std::alloc::Global;
 #[derive(Drop)]
 pub struct Source<'t> {
     recorded: Recorded,
-    // Whether the typed input is asked for.
+    // Says whether the typed input is asked for.
     is_input: bool,
     cast: Cast,
     typescript: Typescript<'t>,
 }
 
 impl<'t> Source<'t> {
-    /// A file of which nothing was read. Takes no memory.
+    /// Returns a file before its first read. Takes no memory.
     pub fn new(alloc: Global, options: Options<'t>) -> Source<'t> {
         Source {
             recorded: options.recorded,

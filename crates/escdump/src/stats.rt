@@ -6,8 +6,8 @@ use crate::values::{cut, number_in};
 use dump_page::{Key, Name, Page};
 use std::alloc::Global;
 
-// How often something of a name came, how many bytes they and the longest one have, and how many
-// bytes of the stream come before the first one.
+// Says how often something of a name came, how many bytes they and the longest one have, and how
+// many bytes of the stream come before the first one.
 #[derive(Clone, Copy)]
 struct Row {
     name: Name,
@@ -21,7 +21,7 @@ struct Row {
 // kind.
 const MOST: u64 = 500;
 
-// Whether a sequence of this name sets, resets, saves or restores modes, or asks for one.
+// Returns whether a sequence of this name sets, resets, saves or restores modes, or asks for one.
 fn has_modes(name: Name) -> bool {
     let Name(kind, word, _) = name;
     if kind != "CSI" {
@@ -37,14 +37,14 @@ fn has_modes(name: Name) -> bool {
 #[derive(Drop)]
 pub struct Stats {
     rows: Vec<Row>,
-    // How many of them have a name with a number or bytes.
+    // Says how many of them have a name with a number or bytes.
     own: u64,
     text_end: u64,
     text_length: u64,
 }
 
 impl Stats {
-    /// Nothing came. Takes no memory.
+    /// Returns counts of nothing. Takes no memory.
     pub fn new(alloc: Global) -> Stats {
         Stats {
             rows: Vec::new(alloc),

@@ -19,7 +19,7 @@ pub fn add_seconds(micros: u64, width: usize, to: &mut Phrase) {
     }
 }
 
-// The digit of a number below 10.
+// Returns the digit of a number below 10.
 fn digit_words(number: u64) -> &'static str {
     for at in 0..DIGITS.len() {
         if at as u64 == number {

@@ -5,7 +5,7 @@ use crate::fields::add_label;
 use crate::key_words::{add_bits, add_code, add_event, add_modifiers};
 use dump_page::Phrase;
 
-/// The text up to a byte, and the text after that byte, if it has one.
+/// Returns the text up to a byte, and the text after that byte, if it has one.
 pub fn cut(text: &[u8], byte: u8) -> (&[u8], Option<&[u8]>) {
     for at in 0..text.len() {
         if text[at] == byte {
@@ -15,7 +15,7 @@ pub fn cut(text: &[u8], byte: u8) -> (&[u8], Option<&[u8]>) {
     (text, None)
 }
 
-/// The first word of a name.
+/// Returns the first word of a name.
 pub fn first_word(name: &'static str) -> &'static str {
     match name.split_once(' ') {
         Some((first, _)) => first,
@@ -23,7 +23,7 @@ pub fn first_word(name: &'static str) -> &'static str {
     }
 }
 
-/// The number that a text is in decimal, of at most 18 digits.
+/// Returns the number that a text is in decimal, of at most 18 digits.
 pub fn number_in(text: &[u8]) -> Option<i64> {
     match text {
         [b'-', digits @ ..] => match digits_in(digits) {
@@ -34,7 +34,7 @@ pub fn number_in(text: &[u8]) -> Option<i64> {
     }
 }
 
-// The number of these digits.
+// Returns the number of these digits.
 fn digits_in(text: &[u8]) -> Option<i64> {
     if text.is_empty() || text.len() > 18 {
         return None;
@@ -50,7 +50,7 @@ fn digits_in(text: &[u8]) -> Option<i64> {
     Some(number)
 }
 
-/// The words of a value: the text after its `~`.
+/// Returns the words of a value: the text after its `~`.
 pub fn words_in(values: &'static str, value: &[u8]) -> Option<&'static str> {
     for entry in values.split('/') {
         if let Some((key, words)) = entry.split_once('~') {

@@ -7,16 +7,16 @@ use crate::selection::numbers_of;
 use crate::values::cut;
 use dump_page::{Key, Name, Phrase};
 
-/// Whether a terminal is in its VT52 mode: from the reset of DECANM up to its next setting, or to
-/// `ESC <`.
+/// Says whether a terminal is in its VT52 mode: from the reset of DECANM up to its next setting, or
+/// to `ESC <`.
 #[derive(Clone, Copy, Drop)]
 pub struct Vt52 {
-    /// Whether it is.
+    /// Says whether it is.
     pub is_on: bool,
 }
 
 impl Vt52 {
-    /// Nothing came.
+    /// Returns a state to which nothing came.
     pub fn new() -> Vt52 {
         Vt52 { is_on: false }
     }
@@ -32,7 +32,7 @@ impl Vt52 {
     }
 }
 
-// Whether an item that sets or resets modes has the private mode 2, which is DECANM.
+// Returns whether an item that sets or resets modes has the private mode 2, which is DECANM.
 fn is_of_mode(item: &Item) -> bool {
     if item.kind() != Kind::Csi || !matches!(item.body(), [b'?', ..]) {
         return false;
@@ -62,7 +62,7 @@ pub enum Address {
     Other,
 }
 
-/// Whether a cursor position comes first: after `ESC Y` the line and the column, each as a
+/// Returns whether a cursor position comes first: after `ESC Y` the line and the column, each as a
 /// character past U+0020. If nothing comes after the bytes, none is begun.
 pub fn address_in(bytes: &[u8], is_last: bool) -> Address {
     match bytes {

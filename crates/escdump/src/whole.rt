@@ -14,7 +14,7 @@ pub struct Whole<E> {
 }
 
 impl<E: Write> Whole<E> {
-    /// None. Takes no memory.
+    /// Returns an empty text. Takes no memory.
     pub fn new(alloc: Global, faults: E) -> Whole<E> {
         Whole {
             bytes: Vec::new(alloc),
@@ -22,7 +22,7 @@ impl<E: Write> Whole<E> {
         }
     }
 
-    /// The bytes.
+    /// Returns the bytes.
     pub fn bytes(&self) -> &[u8] {
         &self.bytes
     }

@@ -15,27 +15,27 @@ pub struct Words {
     pub phrase: Phrase,
     /// Room for a text that is written into another.
     pub scratch: Phrase,
-    /// Whether a cancel comes now that is not the stream's, and has no words.
+    /// Says whether a cancel comes now that is not the stream's, and has no words.
     pub is_ending: bool,
-    /// Whether the words of the segment are said, as far as its events say them.
+    /// Says whether the words of the segment are said, as far as its events say them.
     pub has_said: bool,
-    /// Whether the stream ends inside it.
+    /// Says whether the stream ends inside it.
     pub is_unfinished: bool,
-    /// Whether all of them are.
+    /// Says whether all of them are.
     pub is_whole: bool,
-    /// Whether tmux passes on their segment.
+    /// Says whether tmux passes on their segment.
     pub is_carried: bool,
     /// The name of a string in whose words a control sequence may be named after it.
     pub string: Option<Name>,
-    /// Whether they are of a terminal in its VT52 mode.
+    /// Says whether they are of a terminal in its VT52 mode.
     pub is_vt52: bool,
-    // How many bytes the words may have.
+    // Says how many bytes the words may have.
     room: usize,
     controls: Vec<Count>,
 }
 
 impl Words {
-    /// None, that may have so many bytes. Takes no memory.
+    /// Returns no words, with room for so many bytes. Takes no memory.
     pub fn new(alloc: Global, room: usize) -> Words {
         let mut phrase = Phrase::new(alloc);
         phrase.restart(room);
@@ -54,7 +54,7 @@ impl Words {
         }
     }
 
-    /// No words, for the next segment.
+    /// Clears the words, for the next segment.
     pub fn clear(&mut self) {
         self.phrase.restart(self.room);
         self.is_ending = false;
@@ -66,7 +66,7 @@ impl Words {
         self.controls.clear();
     }
 
-    /// The name of the segment.
+    /// Returns the name of the segment.
     pub fn name(&self) -> Name {
         match self.string {
             Some(name) => name,
@@ -74,7 +74,7 @@ impl Words {
         }
     }
 
-    /// How many bytes the words may have.
+    /// Returns how many bytes the words may have.
     pub fn room(&self) -> usize {
         self.room
     }

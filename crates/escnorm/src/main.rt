@@ -33,8 +33,8 @@ fn main(rt: HostRuntime) -> ExitCode {
     ExitCode::from(status)
 }
 
-// The time to write: once all is read if standard output is the file that is read, which would have
-// no end otherwise.
+// Returns the time to write: once all is read if standard output is the file that is read, which
+// would have no end otherwise.
 fn order(rt: &HostRuntime) -> Order {
     if is_output(rt, metadata(rt, "/dev/stdin")) {
         Order::OnceRead
@@ -43,7 +43,7 @@ fn order(rt: &HostRuntime) -> Order {
     }
 }
 
-// The words after the program's name.
+// Returns the words after the program's name.
 fn arguments(rt: &HostRuntime) -> io::Result<Vec<String>> {
     let mut words = Vec::new(rt.alloc());
     for word in env::args(rt)?.skip(1) {

@@ -27,9 +27,9 @@ const DIFFERENT: u8 = 3;
 /// When the program writes.
 #[derive(Clone, Copy)]
 pub enum Order {
-    /// As it reads.
+    /// It writes as it reads.
     AsItReads,
-    /// Once it has read all, if the output is also the input: the input has an end then.
+    /// It writes once it has read all, if the output is also the input: the input has an end then.
     OnceRead,
 }
 
@@ -77,7 +77,7 @@ pub fn run<A: Allocator + Copy, R: Read, W: Write, E: Write>(
     }
 }
 
-// The status once the input is normalised.
+// Returns the status once the input is normalised.
 fn normalised<A: Allocator + Copy, R: Read, W: Write>(
     alloc: A,
     order: Order,
@@ -115,7 +115,7 @@ fn normalise_in<A: Allocator + Copy, R: Read, W: Write>(
     }
 }
 
-// The status once the input is compared with its normal form.
+// Returns the status once the input is compared with its normal form.
 fn checked<A: Allocator + Copy, R: Read>(
     alloc: A,
     input: &mut Watched<R>,
@@ -130,7 +130,7 @@ fn checked<A: Allocator + Copy, R: Read>(
     }
 }
 
-// The same fault, as the error of a stream that is written as it is read.
+// Does the same fault, as the error of a stream that is written as it is read.
 fn fault_of(error: NormaliseError) -> FilterError {
     match error {
         NormaliseError::Read => FilterError::Read,
@@ -139,7 +139,7 @@ fn fault_of(error: NormaliseError) -> FilterError {
     }
 }
 
-// The same with the error of `is_normal`.
+// Does the same with the error of `is_normal`.
 fn compared<A: Allocator + Copy, R: Read>(
     alloc: A,
     input: &mut Watched<R>,

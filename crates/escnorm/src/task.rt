@@ -8,15 +8,15 @@ use esc_values::scalar::read_usize;
 /// is no limit.
 #[derive(Clone, Copy)]
 pub enum Task {
-    /// To write the input in normal form.
+    /// It writes the input in normal form.
     Normalise(Option<usize>),
-    /// To say whether the input is in normal form.
+    /// It says whether the input is in normal form.
     Check(Option<usize>),
 }
 
 impl Task {
-    /// The task that these words, the program's arguments, name: no word the first, `--check` the
-    /// second, and either with `--limit` and a number after it. Any others name none.
+    /// Returns the task that these words, the program's arguments, name: no word the first,
+    /// `--check` the second, and either with `--limit` and a number after it. Any others name none.
     pub fn of(words: &[String]) -> Option<Task>
         ensures { result ≡ task_of (map string_bytes words.now) }
     {
@@ -33,7 +33,7 @@ impl Task {
     }
 }
 
-// The number after `--limit`, if these two words are all.
+// Returns the number after `--limit`, if these two words are all.
 fn limit_in(words: &[String]) -> Option<usize>
     ensures { result ≡ limit_of (map string_bytes words.now) }
 {

@@ -1,4 +1,4 @@
-//! In which cells the screens of two streams differ.
+//! This module says in which cells the screens of two streams differ.
 
 use crate::display::Display;
 use crate::fault::{Fault, ended};
@@ -24,7 +24,7 @@ pub struct Differing<'a, W, E> {
     pub faults: E,
     /// The terminal of the first.
     pub first: Option<Terminal>,
-    /// Whether they differ.
+    /// Says whether they differ.
     pub differ: bool,
 }
 

@@ -20,7 +20,7 @@ pub struct Display {
 }
 
 impl Display {
-    /// A terminal of this size that was fed nothing, by these options.
+    /// Returns a terminal of this size that was fed nothing, by these options.
     pub fn new(alloc: Global, size: Size, options: Options) -> Result<Display, AllocError> {
         let mut terminal = if options.is_log && !options.is_cast {
             Terminal::for_log(alloc, size.columns, size.rows)?

@@ -27,8 +27,8 @@ impl From<AllocError> for Fault {
     }
 }
 
-/// The end of the stream of this name, after this result. A line on `faults` says the fault; but if
-/// nobody reads the output of this name any more, none is written.
+/// Returns the end of the stream of this name, after this result. A line on `faults` says the
+/// fault; but if nobody reads the output of this name any more, none is written.
 pub fn ended<E: Write>(
     done: Result<(), Fault>,
     name: &str,

@@ -14,11 +14,11 @@ const LAYOUT: Layout = Layout {
     inline: true,
 };
 
-// How many bytes of a sequence are kept: as many as a terminal keeps of a link.
+// Says how many bytes of a sequence are kept: as many as a terminal keeps of a link.
 const LIMIT: usize = 4096;
 
-/// The HTML of a text: a `pre` of the page that `esc_html` makes of it. The error is that memory
-/// was refused.
+/// Returns the HTML of a text: a `pre` of the page that `esc_html` makes of it. The error is that
+/// memory was refused.
 pub fn html_of<A: Allocator + Copy>(alloc: A, text: &str) -> Result<String<A>, AllocError> {
     let mut writer = HtmlWriter::with_layout(alloc, LIMIT, LAYOUT);
     let Ok(()) = writer.feed(text.as_bytes()) else {

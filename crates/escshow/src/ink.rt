@@ -14,7 +14,7 @@ pub struct Ink {
     pub underline: Option<Rgb>,
 }
 
-/// The colours of a picture where nothing asks for others.
+/// Returns the colours of a picture that asks for no others.
 pub fn plain() -> Ink {
     let scheme = Palette::OneHalf.dark();
     Ink {
@@ -24,7 +24,7 @@ pub fn plain() -> Ink {
     }
 }
 
-/// The colours of characters with this look.
+/// Returns the colours of characters with this look.
 pub fn ink_of(look: &Look) -> Ink {
     let plain = plain();
     let text = color_of(look.foreground).unwrap_or(plain.text);
@@ -45,7 +45,7 @@ pub fn ink_of(look: &Look) -> Ink {
     }
 }
 
-// The red, green and blue of a colour; none of the default colour.
+// Returns the red, green and blue of a colour; none of the default colour.
 fn color_of(color: Color) -> Option<Rgb> {
     match color {
         Color::Default => None,

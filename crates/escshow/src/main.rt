@@ -89,7 +89,7 @@ fn done(rt: &HostRuntime, task: &Task<'_>) -> u8 {
     }
 }
 
-// The status after a text was written.
+// Returns the status after a text was written.
 fn said(rt: &HostRuntime, written: io::Result<()>) -> u8 {
     status_of_text(PROGRAM, OUTPUT, written, &mut rt.stderr())
 }
@@ -102,7 +102,7 @@ fn show_to(rt: &HostRuntime, task: &Task<'_>) -> u8 {
     }
 }
 
-// The same in the file of this name, or on the stream of this name.
+// Does the same in the file of this name, or on the stream of this name.
 fn show_to_file(rt: &HostRuntime, task: &Task<'_>, name: &str) -> u8 {
     match Output::of(rt, name, NEW) {
         Ok(Output::New(new)) => show_to_new(rt, task, name, new),
@@ -111,7 +111,7 @@ fn show_to_file(rt: &HostRuntime, task: &Task<'_>, name: &str) -> u8 {
     }
 }
 
-// The same in this one, which takes the place of that name whole or not at all.
+// Does the same in this one, which takes the place of that name whole or not at all.
 fn show_to_new(rt: &HostRuntime, task: &Task<'_>, name: &str, mut new: NewFile<HostRuntime>) -> u8 {
     let status = show(rt, task, name, &mut new.file);
     let is_whole = status == DONE || status == DIFFERENT;
@@ -163,8 +163,8 @@ fn compare<W: Write>(rt: &HostRuntime, task: &Task<'_>, output_name: &str, outpu
     status
 }
 
-// The status of the program that compared files, if this is the result of `compare`: 1 if they
-// differ, and 2 for any fault.
+// Returns the status of the program that compared files, if this is the result of `compare`: 1 if
+// they differ, and 2 for any fault.
 fn compared(status: u8) -> u8 {
     match status {
         DIFFERENT => FAULT,

@@ -3,7 +3,7 @@
 use command_line::{Found, Given, Known, Takes, Wrong, read};
 use std::alloc::Global;
 
-/// How a screen is written.
+/// Says how a screen is written.
 #[derive(Clone, Copy, PartialEq, Eq)]
 pub enum Form {
     /// As rows of text.
@@ -18,7 +18,7 @@ pub enum Form {
     Json,
 }
 
-/// How many columns and rows a screen has.
+/// Says how many columns and rows a screen has.
 #[derive(Clone, Copy, PartialEq, Eq)]
 pub struct Size {
     /// The columns.
@@ -27,18 +27,18 @@ pub struct Size {
     pub rows: u16,
 }
 
-/// How streams are shown.
+/// Says how streams are shown.
 #[derive(Clone, Copy)]
 pub struct Options {
-    /// How a screen is written.
+    /// Says how a screen is written.
     pub form: Form,
     /// The number of columns and rows that it has, if that is given.
     pub size: Option<Size>,
-    /// Whether the lines that a terminal leaves are written, and not its screen alone.
+    /// Says whether the lines that a terminal leaves are written, and not its screen alone.
     pub is_log: bool,
-    /// Whether a line feed goes to the first column too, as in a file of text.
+    /// Says whether a line feed goes to the first column too, as in a file of text.
     pub has_new_lines: bool,
-    /// Whether a file is a recording.
+    /// Says whether a file is a recording.
     pub is_cast: bool,
     /// The time of a recording at which its screen is shown, in seconds; at its end, if there is
     /// none.
@@ -66,7 +66,7 @@ pub enum Kind {
 pub struct Task<'a> {
     /// The work of the program.
     pub kind: Kind,
-    /// How streams are shown.
+    /// Says how streams are shown.
     pub options: Options,
     /// The file that the output goes to; standard output, if there is none.
     pub output: Option<&'a str>,
@@ -145,7 +145,7 @@ const KNOWN: &[Known] = &[
 ];
 
 impl Size {
-    /// The size that a word names: columns, `x` and rows, from 1 to 1000 each.
+    /// Returns the size that a word names: columns, `x` and rows, from 1 to 1000 each.
     pub fn of(word: &str) -> Option<Size> {
         let (columns, rows) = word.split_once('x')?;
         Some(Size {
@@ -154,7 +154,7 @@ impl Size {
         })
     }
 
-    /// The size of so many columns and rows, but 1 at least and 1000 at most of each.
+    /// Returns the size of so many columns and rows, but 1 at least and 1000 at most of each.
     pub fn within(columns: u64, rows: u64) -> Size {
         Size {
             columns: limited(columns),
@@ -163,7 +163,7 @@ impl Size {
     }
 }
 
-// How many columns or rows a word names.
+// Returns how many columns or rows a word names.
 fn count_of(word: &str) -> Option<u16> {
     match word.parse::<u16>() {
         Ok(count) if 0 < count && count <= MOST => Some(count),
@@ -171,7 +171,7 @@ fn count_of(word: &str) -> Option<u16> {
     }
 }
 
-// So many, but 1 at least and 1000 at most.
+// Returns this number, but 1 at least and 1000 at most.
 fn limited(count: u64) -> u16 {
     if count < 1 {
         1
@@ -223,8 +223,8 @@ impl Options {
 }
 
 impl<'a> Task<'a> {
-    /// The task that these words, the program's arguments, name. If an option is given twice, the
-    /// last counts, and so does the last of the forms.
+    /// Returns the task that these words, the program's arguments, name. If an option is given
+    /// twice, the last counts, and so does the last of the forms.
     pub fn of(alloc: Global, words: &'a [String]) -> Result<Task<'a>, Wrong<'a>> {
         match read(alloc, KNOWN, words) {
             Ok(found) => Task::from_found(found),
@@ -232,7 +232,7 @@ impl<'a> Task<'a> {
         }
     }
 
-    // The task that these options and files name.
+    // Returns the task that these options and files name.
     fn from_found(found: Found<'a>) -> Result<Task<'a>, Wrong<'a>> {
         let mut task = Task {
             kind: Kind::Show,
@@ -283,7 +283,7 @@ impl<'a> Task<'a> {
         Ok(())
     }
 
-    // The task, unless it asks for pictures of two files: an output is one picture.
+    // Returns the task, unless it asks for pictures of two files: an output is one picture.
     fn with_one_picture(self) -> Result<Task<'a>, Wrong<'a>> {
         match self.files.as_slice() {
             [_, second, ..] if self.options.form == Form::Svg => {
@@ -293,7 +293,7 @@ impl<'a> Task<'a> {
         }
     }
 
-    // The task, if it has two files.
+    // Returns the task, if it has two files.
     fn with_two_files(mut self) -> Result<Task<'a>, Wrong<'a>> {
         self.options.take_diff();
         match self.files.as_slice() {
@@ -305,7 +305,7 @@ impl<'a> Task<'a> {
     }
 }
 
-// The size that a word names.
+// Returns the size that a word names.
 fn size_named(word: &str) -> Result<Size, Wrong<'_>> {
     match Size::of(word) {
         Some(size) => Ok(size),
@@ -313,7 +313,7 @@ fn size_named(word: &str) -> Result<Size, Wrong<'_>> {
     }
 }
 
-// The time that a word names, in seconds.
+// Returns the time that a word names, in seconds.
 fn time_named(word: &str) -> Result<f64, Wrong<'_>> {
     match word.parse::<f64>() {
         Ok(time) if time >= 0.0 => Ok(time),
@@ -321,7 +321,7 @@ fn time_named(word: &str) -> Result<f64, Wrong<'_>> {
     }
 }
 
-// The length of the stretch that a word names, in seconds: a thousandth at least.
+// Returns the length of the stretch that a word names, in seconds: a thousandth at least.
 fn stretch_named(word: &str) -> Result<f64, Wrong<'_>> {
     match word.parse::<f64>() {
         Ok(seconds) if seconds >= 0.001 => Ok(seconds),

@@ -11,8 +11,8 @@ use esc_decode::Mask;
 use std::alloc::Global;
 use std::io::Read;
 
-/// The terminal that was fed a stream, or the texts of a recording, by these options, and the lines
-/// that it leaves. While a recording is played, its screens go to `frames`.
+/// Returns the terminal that was fed a stream, or the texts of a recording, by these options, and
+/// the lines that it leaves. While a recording is played, its screens go to `frames`.
 pub fn display_of<R: Read + Drop, F: Frames>(
     alloc: Global,
     options: Options,

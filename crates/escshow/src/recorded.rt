@@ -19,7 +19,7 @@ pub struct Recorded {
     scratch: Scratch,
     // the bytes so far of the line that is unfinished
     line: Vec<u8>,
-    // how many lines were taken
+    // says how many lines were taken
     count: u64,
     clock: Clock,
     // none before the header
@@ -31,14 +31,14 @@ pub struct Recorded {
 struct Clock {
     // the time of the last event, in seconds
     now: f64,
-    // whether the time of an event is counted from the event before
+    // says whether the time of an event is counted from the event before
     is_relative: bool,
-    // whether an event came after the time that is asked for
+    // says whether an event came after the time that is asked for
     is_over: bool,
 }
 
 impl Recorded {
-    /// A recording of which nothing came. Takes no memory.
+    /// Returns a recording to which nothing came. Takes no memory.
     pub fn new(alloc: Global, options: Options) -> Recorded {
         Recorded {
             alloc,
@@ -55,7 +55,7 @@ impl Recorded {
         }
     }
 
-    /// Whether an event came after the time that is asked for.
+    /// Returns whether an event came after the time that is asked for.
     pub fn is_over(&self) -> bool {
         self.clock.is_over
     }
@@ -80,7 +80,7 @@ impl Recorded {
         self.end_line(frames)
     }
 
-    /// The terminal, and its lines so far. The error is that there was no header.
+    /// Returns the terminal, and its lines so far. The error is that there was no header.
     pub fn into_display(mut self) -> Result<Display, Fault> {
         match self.display.take() {
             Some(display) => Ok(display),
@@ -153,7 +153,7 @@ impl Recorded {
 }
 
 impl Clock {
-    // Whether it is in a later stretch of so many seconds than this time was.
+    // Returns whether it is in a later stretch of so many seconds than this time was.
     fn is_later(self, time: Option<f64>, every: Option<f64>) -> bool {
         match (time, every) {
             (Some(time), Some(every)) => {
@@ -177,7 +177,8 @@ impl Clock {
     }
 }
 
-// The size that a header has: `width` and `height`, and from version 3 on `cols` and `rows` of
+// Returns the size that a header has: `width` and `height`, and from version 3 on `cols` and `rows`
+// of
 // `term`.
 fn size_in(alloc: Global, header: &str) -> Result<Size, Fault> {
     let mut scratch = Scratch::new(alloc);
@@ -191,7 +192,7 @@ fn size_in(alloc: Global, header: &str) -> Result<Size, Fault> {
     Ok(size.unwrap_or(DEFAULT_SIZE))
 }
 
-// The size that an object has under these names.
+// Returns the size that an object has under these names.
 fn size_of(value: &Value<'_>, columns: &str, rows: &str) -> Option<Size> {
     let columns = value.get(columns)?.as_u64()?;
     let rows = value.get(rows)?.as_u64()?;

@@ -27,7 +27,7 @@ pub struct Showing<'a, W, E> {
     pub output: &'a mut W,
     /// The output for faults.
     pub faults: E,
-    /// Whether nothing was written yet.
+    /// Says whether nothing was written yet.
     pub is_first: bool,
 }
 
@@ -103,7 +103,7 @@ impl<'a, W: Write, E: Write> Showing<'a, W, E> {
     }
 }
 
-/// The view of a terminal's screen, with looks or without.
+/// Returns the view of a terminal's screen, with looks or without.
 pub fn view_of(terminal: &Terminal, has_looks: bool) -> Result<View<'_>, AllocError> {
     match (terminal.screen(), terminal.styles()) {
         (Some(screen), Some(styles)) => Ok(View {
@@ -116,7 +116,7 @@ pub fn view_of(terminal: &Terminal, has_looks: bool) -> Result<View<'_>, AllocEr
     }
 }
 
-// The sheet of a terminal's screen in this form; for HTML, the sheet from which it is made.
+// Returns the sheet of a terminal's screen in this form; for HTML, the sheet from which it is made.
 fn sheet_of(alloc: Global, terminal: &Terminal, form: Form) -> Result<Sheet, AllocError> {
     let mut sheet = Sheet::new(alloc);
     match form {

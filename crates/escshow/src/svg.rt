@@ -34,7 +34,7 @@ struct Run {
     width: u32,
     // the number of their look
     number: u16,
-    // whether it is one wide character
+    // says whether it is one wide character
     is_wide: bool,
     // the number of blank columns at its end
     blanks: u32,
@@ -42,8 +42,8 @@ struct Run {
     text: String,
 }
 
-/// The picture of a screen. Characters of the screen are text in it, with `&`, `<` and `>` as
-/// character references, and links are left out. The error is that memory was refused.
+/// Returns the picture of a screen. Characters of the screen are text in it, with `&`, `<` and `>`
+/// as character references, and links are left out. The error is that memory was refused.
 pub fn picture_of(alloc: Global, view: View<'_>) -> Result<String, AllocError> {
     let mut svg = String::new(alloc);
     push_head(&mut svg, alloc, view)?;
@@ -73,7 +73,7 @@ fn push_head(svg: &mut String, alloc: Global, view: View<'_>) -> Result<(), Allo
     push_str(svg, "/>\n")
 }
 
-// A text with each character spelled that does not show.
+// Returns a text with each character spelled that does not show.
 fn spelled(alloc: Global, text: &str) -> Result<String, AllocError> {
     let mut shown = String::new(alloc);
     let mut last = None;
@@ -94,7 +94,7 @@ fn append_shown(text: &mut String, last: Option<char>, c: char) -> Result<(), Al
     }
 }
 
-// Whether a character that is no control may be in XML (XML 1.0, 2.2).
+// Returns whether a character that is no control may be in XML (XML 1.0, 2.2).
 fn is_in_xml(c: char) -> bool {
     c != '\u{fffe}' && c != '\u{ffff}'
 }
@@ -122,7 +122,7 @@ fn push_row(svg: &mut String, alloc: Global, view: View<'_>, at: u16) -> Result<
 }
 
 impl Run {
-    // A run that begins with this cell, still without it.
+    // Returns a run that begins with this cell, still without it.
     fn new(alloc: Global, column: u32, cell: &Cell) -> Run {
         Run {
             column,
@@ -134,7 +134,7 @@ impl Run {
         }
     }
 
-    // Whether this cell is one more of it.
+    // Returns whether this cell is one more of it.
     fn goes_on(&self, cell: &Cell) -> bool {
         match cell.content {
             Content::Rest => true,
@@ -207,7 +207,7 @@ impl Run {
     }
 }
 
-// Appends the ground of so many columns, where it is not that of the picture.
+// Appends the ground of so many columns, if it is not that of the picture.
 fn push_ground(
     svg: &mut String,
     look: &Look,
@@ -228,7 +228,7 @@ fn push_ground(
     push_str(svg, "/>\n")
 }
 
-// Whether characters of this look have a line under, through or above them.
+// Returns whether characters of this look have a line under, through or above them.
 fn has_lines(look: &Look) -> bool {
     look.underline != Underline::None || look.strikethrough || look.overline
 }
@@ -282,7 +282,7 @@ fn push_look(svg: &mut String, look: &Look) -> Result<(), AllocError> {
     push_str(svg, "\"")
 }
 
-// The words of an underline (CSS Text Decoration 3).
+// Returns the words of an underline (CSS Text Decoration 3).
 fn line_words(underline: Underline) -> &'static str {
     match underline {
         Underline::None => "",

@@ -21,7 +21,7 @@ impl<A: Allocator> Admit<A> for Quiet {
     }
 }
 
-// Whether this action stays in the log.
+// Returns whether this action stays in the log.
 fn is_kept<A: Allocator>(action: &Action<A>) -> bool
     ensures { result ≡ keeps (value_of action.now) }
 {
@@ -35,7 +35,7 @@ fn is_kept<A: Allocator>(action: &Action<A>) -> bool
     }
 }
 
-// Whether the command sets a title or the name of an icon, or shows a notification.
+// Returns whether the command sets a title or the name of an icon, or shows a notification.
 fn is_loud<A: Allocator>(command: &OperatingSystemCommand<A>) -> bool
     ensures { result ≡ is_loud command.now }
 {

@@ -28,7 +28,7 @@ pub struct Refusing<B: Allocator> {
 }
 
 impl<B: Allocator> Refusing<B> {
-    /// An allocator over `inner` that refuses nothing.
+    /// Returns an allocator over `inner` that refuses nothing.
     pub fn new(inner: B) -> Refusing<B> {
         Refusing {
             inner,
@@ -47,7 +47,7 @@ impl<B: Allocator> Refusing<B> {
         self.tally.get().has_refused()
     }
 
-    /// The requests since the count started, the refused one among them.
+    /// Returns the requests since the count started, the refused one among them.
     pub fn requests(&self) -> u64 {
         self.tally.get().requests()
     }

@@ -1,6 +1,6 @@
 ghost use Rattle.std.specs.Prelude.{◌≡◌, ◌+◌, ◌^◌, ◌<◌, ◌≤◌, ◌↔◌, IsTrue};
 
-/// How many requests there were, and which one is refused.
+/// Says how many requests there were, and which one is refused.
 #[derive(Clone, Copy)]
 pub(crate) struct Tally {
     requests: u64,
@@ -8,7 +8,7 @@ pub(crate) struct Tally {
 }
 
 impl Tally {
-    /// No request yet, and the one with the number `refused` to be refused.
+    /// Returns no request yet, and the one with the number `refused` to be refused.
     pub(crate) fn refusing(refused: u64) -> Tally
         ensures { (result.requests ≡ 0) × (result.refused ≡ refused) }
     {
@@ -18,7 +18,8 @@ impl Tally {
         }
     }
 
-    /// The tally after one more request. The count stays at the greatest number that it can hold.
+    /// Returns the tally after one more request. The count stays at the greatest number that it can
+    /// hold.
     pub(crate) fn next(self) -> Tally
         ensures counted { self.requests + 1 < 2 ^ 64 → result.requests ≡ self.requests + 1 }
         ensures kept { result.refused ≡ self.refused }
@@ -43,7 +44,7 @@ impl Tally {
         self.refused > 0 && self.refused <= self.requests
     }
 
-    /// The requests that were counted.
+    /// Returns the requests that were counted.
     pub(crate) fn requests(self) -> u64
         ensures { result ≡ self.requests }
     {

@@ -4,8 +4,8 @@ ghost use Rattle.fallible_alloc.specs.Refusals.{Refused};
 
 use std::alloc::Allocator;
 
-// The result of a call of the library whose only error is that memory was refused. Nothing else may
-// be passed to it.
+// Returns the result of a call of the library whose only error is that memory was refused. Nothing
+// else may be passed to it.
 #[inline(always)]
 pub(crate) fn answered<T, E, A: Allocator>(answer: Result<T, E>) -> Result<T, E>
     ensures same { result ≡ answer }

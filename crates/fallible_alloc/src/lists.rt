@@ -1,4 +1,4 @@
-//! Lists and boxes.
+//! Lists and boxes. An error is that memory was refused.
 ghost use Rattle.std.specs.Prelude.{⊤, List, ◌≡◌, ◌+◌, ◌++◌, ◌∷◌, ◌≤◌, [], length, is_ok, if◌then◌else◌, IfOk, IfErr, OnOk, OnErr, vec_len, vec_capacity};
 ghost use Rattle.std.specs.Iterator.{DrainsIf, IsFinite};
 ghost use Rattle.std.specs.Iterator.Runs.{WholeRun};
@@ -8,7 +8,7 @@ ghost use Rattle.fallible_alloc.specs.Refusals.{Refused};
 use crate::answered::answered;
 use std::alloc::{AllocError, AllocFailed, Allocator};
 
-/// How many bytes one read takes at most.
+/// Says how many bytes one read takes at most.
 pub const READ_BUFFER: usize = 65_536;
 
 /// Appends a value, or hands it back.
@@ -67,7 +67,7 @@ pub fn read_buffer<A: Allocator>(alloc: A) -> Result<Vec<u8, A>, AllocError>
     answered::<_, _, A>(vec![in alloc; 0u8; READ_BUFFER])
 }
 
-/// A copy of a slice.
+/// Returns a copy of a slice.
 #[inline(always)]
 pub fn copied<T: Copy, A: Allocator>(alloc: A, items: &[T]) -> Result<Vec<T, A>, AllocError>
     ensures ok { IfOk result (λ v. v.items ≡ items.now) }
@@ -76,7 +76,7 @@ pub fn copied<T: Copy, A: Allocator>(alloc: A, items: &[T]) -> Result<Vec<T, A>,
     answered::<_, _, A>(Vec::from_slice(alloc, items))
 }
 
-/// The items of an iterator.
+/// Returns the items of an iterator.
 #[inline(always)]
 pub fn collect<I: Iterator + Drop, A: Allocator>(
     alloc: A,
@@ -94,7 +94,7 @@ where
     answered::<_, _, A>(items.collect(alloc))
 }
 
-/// A value in a box, or the value back.
+/// Returns a value in a box, or the value back.
 #[inline(always)]
 pub fn boxed<T, A: Allocator>(alloc: A, value: T) -> Result<Box<T, A>, AllocFailed<T>>
     ensures value { IfOk result (λ boxed. boxed.value ≡ value) }

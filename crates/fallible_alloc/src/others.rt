@@ -28,7 +28,8 @@ pub fn insert<K: Ord + Drop, V, A: Allocator + Clone>(
     answered::<_, _, A>(map.insert(key, value))
 }
 
-/// The bytes that a base64 text encodes, or the fault of the text, or that memory was refused.
+/// Returns the bytes that a base64 text encodes, or the fault of the text, or that memory was
+/// refused.
 #[inline(always)]
 pub fn decode_base64<A: Allocator>(
     engine: &GeneralPurpose,
@@ -48,7 +49,8 @@ pub fn decode_base64<A: Allocator>(
     }
 }
 
-/// The bytes that hexadecimal digits write, or the fault of these, or that memory was refused.
+/// Returns the bytes that hexadecimal digits write, or the fault of these, or that memory was
+/// refused.
 #[inline(always)]
 pub fn decode_hex<A: Allocator>(alloc: A, digits: &[u8]) -> Result<Vec<u8, A>, FromHexError>
     ensures ok { IfOk result (λ v. hexadecimal.decode_of digits.now ≡ Ok v.items) }

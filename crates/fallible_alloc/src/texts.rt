@@ -1,4 +1,4 @@
-//! Texts.
+//! Texts. An error is that memory was refused.
 ghost use Rattle.std.specs.Prelude.{◌≡◌, ◌++◌, is_ok, if◌then◌else◌, IfOk, IfSome, OnOk, OnErr, string_bytes, encode_utf8};
 ghost use Rattle.std.specs.Str.Lossy.{utf8_lossy};
 ghost use Rattle.fallible_alloc.specs.Refusals.{Refused};
@@ -8,7 +8,7 @@ use std::alloc::{AllocError, Allocator};
 use std::fmt;
 use std::fmt::Write;
 
-/// A copy of a text.
+/// Returns a copy of a text.
 #[inline(always)]
 pub fn text<A: Allocator>(alloc: A, text: &str) -> Result<String<A>, AllocError>
     ensures ok { IfOk result (λ copy. string_bytes copy ≡ text.now) }
@@ -17,7 +17,7 @@ pub fn text<A: Allocator>(alloc: A, text: &str) -> Result<String<A>, AllocError>
     answered::<_, _, A>(String::from_str(alloc, text))
 }
 
-/// The text of these bytes, with U+FFFD for those that are not UTF-8.
+/// Returns the text of these bytes, with U+FFFD for those that are not UTF-8.
 #[inline(always)]
 pub fn lossy<A: Allocator>(alloc: A, bytes: &[u8]) -> Result<String<A>, AllocError>
     ensures ok { IfOk result (λ text. string_bytes text ≡ utf8_lossy bytes.now) }

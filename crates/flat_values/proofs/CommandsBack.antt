@@ -1,4 +1,4 @@
--- Commands are read back from what their rows say.
+-- Commands are read back from their rows.
 use Rattle.std.proofs.Common.{ℕ, ◌≡◌, ◌↔◌, Bool, true, false, IsTrue, List, ◌++◌, Option, Some, None, Result, Ok, Err, IfOk, refl, sym, subst, ap, map, ◌∙◌}
 use Rattle.std.proofs.lemmas.Bool.{true≢false}
 use Rattle.std.proofs.lemmas.Option.{none-some}
@@ -54,7 +54,7 @@ abbrev pub form_of : CommandKind → Form
 form_of k = form_at (kind_number k)
 
 module _ (r : Reading) (b : Bounds) (f : Fits r b) where
-  -- the name of the application and the click, of which each may be absent
+  -- the name of the application and the click read back, and each may be absent
   aid_back : (a : Option (List ℕ)) (c : Option FinalTermClick) → AreWithin b (text_parts a)
       → text_in r name.Application (map named_values (aid_fields a ++ click_fields c)) ≡ a
   aid_back None None held = refl
@@ -179,7 +179,7 @@ module _ (r : Reading) (b : Bounds) (f : Fits r b) where
   command_back (command.Unspecified ps) held = ap command.Unspecified (parts_back ps)
 
 module _ {A : Type 0} where
-  -- what a kind and rows say is the command that has them
+  -- a kind and rows say the command that has them
   pub found : (k : ℕ) (t : Table) (c : OperatingSystemCommand A) → IsHeld c → Has k t c
       → command_in held_reading (form_at k) (table_values t) ≡ c
   found k t c is_held has =

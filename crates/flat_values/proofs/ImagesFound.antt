@@ -1,5 +1,5 @@
--- The parts of kitty's images are read from their numbers, by a reading that gives what is within
--- bounds as it is.
+-- The parts of kitty's images are read from their numbers, by a reading that gives parts within
+-- bounds as they are.
 use Rattle.std.proofs.Common.{ℕ, ℤ, zero, suc, pos, ◌≡◌, ◌==◌, ◌^◌, Bool, true, false, if◌then◌else◌, List, [], ◌∷◌, ◌++◌, get_or, Option, Some, None, option_map, map, refl, ap, ◌∙◌}
 use Rattle.esc_kitty.specs.Texts.{offset_in, size_in}
 use Rattle.esc_kitty.specs.declared.compose.KittyImageFrameCompose.{KittyImageFrameCompose}
@@ -30,7 +30,7 @@ use Rattle.flat_values.specs.declared.field_name.FieldName.{FieldName}
 abbrev is : FieldName → FieldName → Bool
 is n m = name_number m == name_number n
 
--- what is found among numbers: the first, by what there is after it
+-- the number found among numbers: the first, by those after it
 abbrev earlier : Option ℤ → Option ℤ → Option ℤ
 earlier None o = o
 earlier (Some z) None = Some z
@@ -86,7 +86,7 @@ composition_is : (m : KittyFrameCompositionMode) → composition_of (composition
 composition_is AlphaBlending = refl
 composition_is Overwrite = refl
 
--- flags, and what is reported
+-- flags and verbosities read back
 pub flag_back : (b : Bool) → flag (flagged b) ≡ b
 flag_back false = refl
 flag_back true = refl
@@ -161,7 +161,7 @@ module _ (r : Reading) (b : Bounds) (f : Fits r b) where
     composition_mode = composition_is x.composition_mode k;
   }
 
-  -- what an image is made of
+  -- the content of an image reads back
   content_is : {A : Type 0} (c : KittyImageData A) → AreWithin b (content_parts c)
       → IsCount b (size_in c) → IsCount b (offset_in c)
       → content_of r (medium_number c) (Text (bytes_of c)) (count r (counted_field (size_in c)))

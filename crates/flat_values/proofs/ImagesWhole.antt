@@ -1,5 +1,5 @@
--- Kitty images are read back from what their rows say, so a kind and fields are the whole of an
--- image, or of none.
+-- Kitty images are read back from their rows, so a kind and fields are the whole of an image, or of
+-- none.
 use Rattle.std.proofs.Common.{ℕ, ℤ, ◌≡◌, ◌↔◌, Bool, true, false, IsTrue, List, [], ◌∷◌, ◌++◌, Option, Some, None, Result, Ok, Err, IfOk, map, refl, sym, subst, ap, ◌∙◌}
 use Rattle.std.proofs.lemmas.Bool.{true≢false}
 use Rattle.std.proofs.lemmas.Option.{none-some}
@@ -28,7 +28,7 @@ use Rattle.flat_values.specs.declared.image_forms.ImageForm.{ImageForm}
 use Rattle.flat_values.specs.declared.image_forms.ImageForm.TheVariants as form
 
 module _ (r : Reading) (b : Bounds) (f : Fits r b) {A : Type 0} where
-  -- the images of each form, by what is found
+  -- the images of each form, by the numbers that were found
   abbrev kept : List ℕ → Numbered → Option (KittyImage A)
   kept t l = Some (image.TransmitData (transmit_in r (Text t) l) (verbosity_in l))
 
@@ -56,7 +56,7 @@ module _ (r : Reading) (b : Bounds) (f : Fits r b) {A : Type 0} where
   abbrev form_of : Option (KittyImage A) → ImageForm
   form_of o = image_form_at (image_number (image_kind o))
 
-  -- a deletion, of what is found of it
+  -- a deletion reads back from its numbers
   removed : (d : Deletion) (w : KittyImageDelete) (v : KittyImageVerbosity)
       → deleted_in r d (seek (delete_numbers w ++ verbosity_numbers v)) ≡ w
       → verbosity_in (seek (delete_numbers w ++ verbosity_numbers v)) ≡ v
@@ -179,7 +179,7 @@ module _ {A : Type 0} where
   any_image (image.TransmitFrame t f v) = (any_transmit t, any_counts (frame_counts f))
   any_image (image.ComposeFrame f v) = any_counts (compose_counts f)
 
-  -- an image, or none, is what its kind and its fields say
+  -- a kind and fields say an image, or none
   any_back : (o : Option (KittyImage A))
       → image_in any_reading (image_form_at (image_number (image_kind o)))
       (map named_values (fields_of_image o)) ≡ o
@@ -196,7 +196,7 @@ module _ {A : Type 0} where
       sym (any_back i) ∙ (λ k. image_in any_reading (image_form_at (number k)) (rows k))
       ∙ any_back j
 
-  -- what a kind and rows say is the image that has them
+  -- a kind and rows say the image that has them
   found : (k : ℕ) (t : Table) (i : KittyImage A) → IsHeldImage i → HasImage k t (Some i)
       → image_in held_reading (image_form_at k) (table_values t) ≡ Some i
   found k t i is_held has =

@@ -1,4 +1,4 @@
--- Colours, links, progress and dynamic colours are read back from what their rows say.
+-- Colours, links, progress and dynamic colours are read back from their rows.
 use Rattle.std.proofs.Common.{ℕ, ◌≡◌, ◌^◌, List, [], ◌∷◌, ◌++◌, Option, Some, None, refl, map, ap, ◌∙◌}
 use Rattle.std.specs.List.{flat_map}
 use Rattle.esc_links.specs.declared.hyperlink.Hyperlink.{Hyperlink}

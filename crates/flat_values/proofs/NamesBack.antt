@@ -1,4 +1,4 @@
--- The names of a termcap query are read back from what their rows say.
+-- The names of a termcap query are read back from their rows.
 use Rattle.std.proofs.Common.{ℕ, ◌≡◌, ◌↔◌, Bool, true, false, IsTrue, List, [], ◌∷◌, Option, None, Result, Ok, Err, IfOk, map, refl, sym, subst, ap, ◌∙◌}
 use Rattle.std.proofs.lemmas.Bool.{true≢false}
 use Rattle.std.proofs.lemmas.Option.{none-some}
@@ -18,7 +18,7 @@ names_back (n ∷ ns) h =
     let rest = names_back ns h.1 in
     λ i. first i ∷ rest i
 
--- what rows say are the names that have them
+-- rows say the names that have them
 found : (t : Table) (ns : List (List ℕ)) → AreTexts types ns → HasNames t ns
     → names_in held_reading (table_values t) ≡ ns
 found t ns texts has =

@@ -75,7 +75,7 @@ after_item parts t u v xs i x inside is_x is_v is_u =
     is_v ∙ ap (λ ys. with_fields t (flat_map parts ys)) (from_item xs i x inside is_x)
     ∙ sym (with_more t (parts x) more) ∙ ap (λ w. with_fields w more) (sym is_u)
 
--- what is read of the items before one, and of it, is what is read of those before the next
+-- the items read before one, and it, are those read before the next
 pub after_read : {X Y : Type 0} (f : X → Y) (xs : List X) (i : ℕ) (x : X) (ys zs : List Y)
     → i < length xs → x ≡ get_or xs i x → map f xs ≡ ys ++ map f (drop i xs)
     → zs ≡ ys ++ f x ∷ [] → map f xs ≡ zs ++ map f (drop (i + 1) xs)

@@ -1,4 +1,4 @@
--- Values are read back from what rows say, by a reading that gives what is within bounds as it is.
+-- Values are read back from rows, by a reading that gives values within bounds as they are.
 use Rattle.std.proofs.Common.{ℕ, ℤ, pos, negsuc, ◌≡◌, ◌<◌, ◌^◌, Bool, true, false, if◌then◌else◌, List, [], ◌∷◌, ◌++◌, Option, Some, None, refl, map, ap}
 use Rattle.std.proofs.lemmas.Bool.{lt-ltb}
 use Rattle.std.proofs.lemmas.Str.{is_utf8-from_IsUtf8}
@@ -14,7 +14,7 @@ use Rattle.flat_values.specs.Held.{AreTexts, AreWithin, Bounds, IsPart, Part, pa
 use Rattle.flat_values.specs.Held.Part.{Limited, Parameters, Signed, Text}
 use Rattle.flat_values.specs.Links.{parameter_fields}
 
--- a reading that gives what is within bounds as it is
+-- says that a reading gives values within bounds as they are
 pub record Fits (r : Reading) (b : Bounds) : Type 0 where
   pub number : (limit n : ℕ) → b.Number limit n → r.number limit n ≡ n
   pub signed : (z : ℤ) → b.Signed z → r.signed z ≡ z

@@ -44,8 +44,9 @@ progress_fields (progress.SetError n) =
 progress_fields progress.SetIndeterminate = number_field name.ProgressState 3 ∷ []
 progress_fields progress.Paused = number_field name.ProgressState 4 ∷ []
 
--- The fields of a command, in order: what is optional is a field that is absent, and the items of a
--- list come one after another. With its kind they are the whole of it, as the law `are_whole` says.
+-- These are the fields of a command, in order: an optional part that is not given has no field, and
+-- the items of a list come one after another. With its kind they are the whole of it, as the law
+-- `are_whole` says.
 abbrev pub fields_of : {A : Type 0} → OperatingSystemCommand A → List Field
 fields_of (command.SetIconNameAndWindowTitle t) = text_field name.Text t ∷ []
 fields_of (command.SetWindowTitle t) = text_field name.Text t ∷ []

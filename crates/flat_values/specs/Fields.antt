@@ -6,7 +6,7 @@ use Rattle.flat_values.specs.declared.field_row.FieldRow.{FieldRow}
 use Rattle.flat_values.specs.declared.field_row.TheConstants.{NUMBER, SIZE, TEXT}
 use denote.Enum.Declared.{tag_of}
 
--- what a field holds: a number, a text as its bytes, or a size in bytes
+-- the value of a field: a number, a text as its bytes, or a size in bytes
 pub data Value : Type 0 where
   Number : ℤ → Value
   Text : List ℕ → Value
@@ -91,7 +91,7 @@ table_of fs = with_fields ([], []) fs
 abbrev pub value_with : ℕ → ℤ → List ℕ → ℕ → Value
 value_with k z t n = if k == NUMBER then Number z else if k == TEXT then Text t else Size n
 
--- what a row says of its field, over the texts of all fields: by its kind a number, a text or a
+-- the value of a row's field, over the texts of all fields: by its kind a number, a text or a
 -- size
 abbrev pub value_at : List ℕ → FieldRow → Value
 value_at t r = value_with r.kind r.number (take r.length (drop r.offset t)) r.length

@@ -7,11 +7,11 @@ use Rattle.flat_values.specs.Fields.{Value, name_number, text_of}
 use Rattle.flat_values.specs.Fields.Value.{Number, Text, Size}
 use Rattle.flat_values.specs.declared.field_name.FieldName.{FieldName}
 
--- what a row says: the number of a name, and a value
+-- is what a row says: the number of a name, and a value
 abbrev pub NamedValue : Type 0
 NamedValue = ℕ × Value
 
--- what a value is, where it is a number or a size; else 0
+-- the number of a value, if it is a number or a size; else 0
 abbrev pub number_of : Value → ℤ
 number_of (Number z) = z
 number_of (Text t) = pos 0
@@ -74,7 +74,7 @@ flag_of v = if count_of v == 0 then false else true
 abbrev pub string_of : Reading → Value → List ℕ
 string_of r v = r.text (text_of v)
 
--- the value of the first, what comes after it, and the value of the second
+-- the value of the first; then the rows after it, and the value of the second
 abbrev pub first : List NamedValue → Value
 first [] = Size 0
 first (s ∷ ss) = s.1
@@ -90,7 +90,7 @@ second ss = first (after ss)
 abbrev pub is_named : FieldName → NamedValue → Bool
 is_named n s = s.0 == name_number n
 
--- the value of the first, where it has this name, and what comes after it then
+-- the value of the first, if it has this name; then the rows after it
 abbrev pub named_value : FieldName → List NamedValue → Option Value
 named_value n [] = None
 named_value n (s ∷ ss) = if is_named n s then Some s.1 else None

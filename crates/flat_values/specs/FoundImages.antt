@@ -40,7 +40,7 @@ abbrev pub look : List NamedValue → FieldName → Option ℤ
 look [] n = None
 look (s ∷ ss) n = if is_named n s then Some (number_of s.1) else look ss n
 
--- what was found of each name
+-- the number that was found for each name
 abbrev pub Numbered : Type 0
 Numbered = FieldName → Option ℤ
 
@@ -67,7 +67,7 @@ abbrev pub known_order : Reading → Option ℤ → ℤ
 known_order r None = pos 0
 known_order r (Some z) = r.signed z
 
--- what the protocol has words for
+-- the values of the protocol's words by their numbers
 abbrev pub verbosity_of : ℕ → KittyImageVerbosity
 verbosity_of n = if n == 0 then Verbose else if n == 1 then OnlyErrors else Quiet
 
@@ -80,7 +80,7 @@ compression_of n = if n == 0 then compression.None else compression.Deflate
 abbrev pub composition_of : ℕ → KittyFrameCompositionMode
 composition_of n = if n == 0 then AlphaBlending else Overwrite
 
--- what is reported, and the format of pixels
+-- the verbosity; then the format of pixels
 abbrev pub verbosity_in : Numbered → KittyImageVerbosity
 verbosity_in l = verbosity_of (natural (l name.Verbosity))
 
@@ -88,7 +88,8 @@ abbrev pub format_in : Option ℤ → Option KittyImageFormat
 format_in o = option_map (λ z. format_of (magnitude z)) o
 
 module _ {A : Type 0} where
-  -- what an image is made of: which of five it is, its text, its size and its offset
+  -- the content of an image: by its medium, which is one of five, its text, its size and its
+  -- offset
   abbrev pub content_of : Reading → ℕ → Value → Option ℕ → Option ℕ → KittyImageData A
   content_of r n v s o = if n == 0 then Direct (string_of r v)
       else if n == 1 then DirectBin (text_of v)
@@ -153,7 +154,7 @@ compose_in r l = record {
   composition_mode = composition_of (natural (l name.CompositionMode));
 }
 
--- what is deleted
+-- a deletion
 abbrev pub deleted_in : Reading → Deletion → Numbered → KittyImageDelete
 deleted_in r deletion.All l = delete.All (flag (l name.DeletesData))
 deleted_in r deletion.ImageId l = delete.ByImageId (known r (l name.ImageId))
@@ -175,7 +176,7 @@ deleted_in r deletion.Range l = delete.ByImageIdRange (known r (l name.FirstImag
     (known r (l name.LastImageId)) (flag (l name.DeletesData))
 
 module _ {A : Type 0} where
-  -- an image that has a text, by what is sent
+  -- an image that has a text, by its sending
   abbrev pub sent_in : Reading → Sending → KittyImageTransmit A → Numbered → KittyImage A
   sent_in r sending.Kept t l = image.TransmitData t (verbosity_in l)
   sent_in r sending.Shown t l =

@@ -15,8 +15,8 @@ use Rattle.flat_values.specs.Found.{NamedValue, Reading, byte_of, channel_of, co
 use Rattle.flat_values.specs.declared.read_colors.Known.{Known}
 use Rattle.flat_values.specs.declared.field_name.FieldName.TheVariants as name
 
--- What is known of an item before a row: a place of the palette, red and green. With the row it is
--- more, or the colour of the item is whole.
+-- These are the known parts of an item before a row: a place of the palette, red and green. With
+-- the row there are more, or the colour of the item is whole.
 abbrev pub nothing : Known
 nothing = record { place = 0; red = 0; green = 0 }
 

@@ -44,7 +44,7 @@ size_in ss = option_map size_of (named_value name.Size ss)
 abbrev pub click_in : List NamedValue → Option FinalTermClick
 click_in ss = option_map (λ v. click_of (count_of v)) (named_value name.Click ss)
 
--- a dimension of three units, each under a name of its own; what comes after it
+-- a dimension of three units, each under a name of its own; then the rows after it
 abbrev pub dimension_in : FieldName → FieldName → FieldName → List NamedValue → ITermDimension
 dimension_in c p r [] = Automatic
 dimension_in c p r (s ∷ ss) =
@@ -69,7 +69,7 @@ keys_in form.CommandStatus ss = after ss
 keys_in k ss = ss
 
 module _ {A : Type 0} where
-  -- a file of its name, its size, its dimensions, and what comes after these
+  -- a file of its name, its size, its dimensions, and the rows after these
   abbrev pub file_with : Option (List ℕ) → Option ℕ → ITermDimension → ITermDimension
       → List NamedValue → ITermFileData A
   file_with n k w h ss = record {

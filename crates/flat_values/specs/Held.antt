@@ -1,5 +1,5 @@
--- What a command's parts are within bounds, and in a program: texts are UTF-8, numbers have the
--- width of their types, and the parameters of a link are in order, each key once.
+-- A command's parts lie within bounds, as in a program: texts are UTF-8, numbers have the width of
+-- their types, and the parameters of a link are in order, each key once.
 use Rattle.std.specs.Prelude.{ℕ, ℤ, ◌≡◌, ◌<◌, ◌^◌, List, [], ◌∷◌, map, Option, Some, None}
 use Rattle.std.specs.List.{flat_map}
 use Rattle.std.specs.Str.{IsUtf8}
@@ -23,8 +23,8 @@ use Rattle.flat_values.specs.Commands.{fields_of}
 use Rattle.flat_values.specs.Fields.{Table, table_of}
 use Rattle.flat_values.specs.Kinds.{kind_number, kind_of}
 
--- what a part may be: a number below a limit, one that may be negative, a text, and the parameters
--- of a link
+-- bounds a part: a number below a limit, one that may be negative, a text, and the parameters of a
+-- link
 pub record Bounds : Type 1 where
   pub Number : ℕ → ℕ → Type 0
   pub Signed : ℤ → Type 0
@@ -61,7 +61,7 @@ AreWithin b (p ∷ ps) = IsPart b p × AreWithin b ps
 abbrev pub AreTexts : Bounds → List (List ℕ) → Type 0
 AreTexts b ts = AreWithin b (map Text ts)
 
--- the parts that are held within bounds: of what is optional, of colours, of the progress of a task
+-- the parts that have bounds: of an optional text, of colours, of the progress of a task
 abbrev pub text_parts : Option (List ℕ) → List Part
 text_parts None = []
 text_parts (Some t) = Text t ∷ []

@@ -1,5 +1,5 @@
--- What the parts of a kitty image are within bounds, and in a program: texts are UTF-8, and numbers
--- have 32 bits.
+-- The parts of a kitty image lie within bounds, as in a program: texts are UTF-8, and numbers have
+-- 32 bits.
 use Rattle.std.specs.Prelude.{ℕ, ℤ, ◌≡◌, ◌^◌, List, [], ◌∷◌, Option, Some, None}
 use Rattle.esc_kitty.specs.Texts.{offset_in, size_in}
 use Rattle.esc_kitty.specs.declared.compose.KittyImageFrameCompose.{KittyImageFrameCompose}
@@ -47,7 +47,7 @@ compose_counts f = f.image_id ∷ f.image_number ∷ f.target_frame ∷ f.source
 abbrev pub IsPlacement : Bounds → KittyImagePlacement → Type 0
 IsPlacement b p = AreCounts b (placement_counts p) × IsOrder b p.z_index
 
--- what is deleted
+-- the numbers of a deletion
 abbrev pub delete_counts : KittyImageDelete → List (Option ℕ)
 delete_counts (delete.ByImageId i p d) = Some i ∷ p ∷ []
 delete_counts (delete.ByImageNumber n p d) = Some n ∷ p ∷ []
@@ -62,7 +62,7 @@ abbrev pub IsDelete : Bounds → KittyImageDelete → Type 0
 IsDelete b w = AreCounts b (delete_counts w) × IsOrder b (delete_order w)
 
 module _ {A : Type 0} where
-  -- what an image is made of, and an image on its way
+  -- the parts of the content of an image; then those of an image that is sent
   abbrev pub content_parts : KittyImageData A → List Part
   content_parts (DirectBin t) = []
   content_parts c = Text (bytes_of c) ∷ []

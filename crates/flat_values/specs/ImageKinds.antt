@@ -1,4 +1,4 @@
--- The kinds of kitty's images: one for each action, and one for each of what is deleted.
+-- Kitty's images have a kind for each action, and one for each deletion.
 use Rattle.std.specs.Prelude.{ℕ, Option, Some, None}
 use Rattle.esc_kitty.specs.declared.delete.KittyImageDelete.{KittyImageDelete}
 use Rattle.esc_kitty.specs.declared.delete.KittyImageDelete.TheVariants as delete

@@ -51,8 +51,8 @@ known_field n = Some (pos n)
 abbrev pub flagged : Bool → Option ℤ
 flagged b = Some (flag_number b)
 
--- the numbers of what the protocol has words for: of formats and of what is reported they are those
--- of the protocol
+-- the number of a verbosity; then those of the protocol's other words: formats and verbosities
+-- have the numbers of the protocol
 abbrev pub verbosity_number : KittyImageVerbosity → ℕ
 verbosity_number Verbose = 0
 verbosity_number OnlyErrors = 1
@@ -72,7 +72,7 @@ composition_number AlphaBlending = 0
 composition_number Overwrite = 1
 
 module _ {A : Type 0} where
-  -- what an image is made of: which of five it is, and its text
+  -- the medium of an image, which is one of five; then its text
   abbrev pub medium_number : KittyImageData A → ℕ
   medium_number (Direct t) = 0
   medium_number (DirectBin t) = 1
@@ -147,7 +147,7 @@ compose_numbers c =
     ∷ (name.SourceY, counted_field c.src_y)
     ∷ (name.CompositionMode, known_field (composition_number c.composition_mode)) ∷ []
 
--- what is deleted: which images, columns or rows, and which order
+-- the images, columns or rows of a deletion; then its order
 abbrev pub delete_places : KittyImageDelete → Numbers
 delete_places (delete.ByImageId i p d) =
     (name.ImageId, known_field i) ∷ (name.PlacementId, counted_field p) ∷ []
@@ -188,14 +188,14 @@ delete_numbers w = delete_places w
 abbrev pub id_numbers : Option ℕ → Option ℕ → Numbers
 id_numbers i n = (name.ImageId, counted_field i) ∷ (name.ImageNumber, counted_field n) ∷ []
 
--- what is reported
+-- the number of the verbosity
 abbrev pub verbosity_numbers : KittyImageVerbosity → Numbers
 verbosity_numbers v = (name.Verbosity, known_field (verbosity_number v)) ∷ []
 
 module _ {A : Type 0} where
-  -- The fields of an image: the text of what is transmitted, and numbers by name, of which those
-  -- that are not given are absent. With its kind they are the whole of it, as the law
-  -- `images_are_whole` says.
+  -- These are the fields of an image: the text of a transmission, and numbers by name; those that
+  -- are not given are absent. With its kind they are the whole of it, as the law `images_are_whole`
+  -- says.
   abbrev pub image_fields : KittyImage A → List Field
   image_fields (image.TransmitData t v) =
       content_field t ∷ number_fields (transmit_numbers t ++ verbosity_numbers v)

@@ -28,7 +28,7 @@ abbrev pub aid_fields : Option (List ℕ) → List Field
 aid_fields None = []
 aid_fields (Some t) = text_field name.Application t ∷ []
 
--- what a click does, where it is given
+-- the effect of a click, if it is given
 abbrev pub click_fields : Option FinalTermClick → List Field
 click_fields None = []
 click_fields (Some c) = number_field name.Click (click_number c) ∷ []

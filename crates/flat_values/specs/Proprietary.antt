@@ -26,7 +26,7 @@ abbrev pub size_fields : Option ℕ → List Field
 size_fields None = []
 size_fields (Some k) = size_field name.Size k ∷ []
 
--- a dimension, of which the name says the unit; nothing where it is automatic
+-- a dimension, whose name says the unit; nothing if it is automatic
 abbrev pub dimension_fields : FieldName → FieldName → FieldName → ITermDimension → List Field
 dimension_fields c p r Automatic = []
 dimension_fields c p r (Cells z) = signed_field c z ∷ []
@@ -40,7 +40,7 @@ abbrev pub height_fields : ITermDimension → List Field
 height_fields d = dimension_fields name.HeightCells name.HeightPixels name.HeightPercent d
 
 module _ {A : Type 0} where
-  -- what a file is shown as, and what it holds
+  -- the fields that say how a file is shown, and its content
   abbrev pub shown_fields : ITermFileData A → List Field
   shown_fields f = flag_field name.PreserveAspectRatio f.preserve_aspect_ratio
       ∷ flag_field name.Inline f.inline ∷ flag_field name.DoNotMoveCursor f.do_not_move_cursor

@@ -1,4 +1,5 @@
-//! The fields of commands, each in a clause of its own. An error is that memory was refused.
+//! This module appends the fields of commands, each in a clause of its own. An error is that memory
+//! was refused.
 ghost use Rattle.std.specs.Prelude.{◌≡◌, OnOk, OnErr};
 ghost use Rattle.flat_values.specs.Commands.{fields_of};
 ghost use Rattle.flat_values.specs.Fields.{with_fields};
@@ -55,7 +56,7 @@ pub(crate) fn append(command: &Command, fields: &mut Fields) -> Result<(), Alloc
     }
 }
 
-// Which selections.
+// Appends the selections.
 fn append_selection(selection: &Selection, fields: &mut Fields) -> Result<(), AllocError>
     ensures ok { OnOk result (fields.new
         ≡ with_fields fields.old (fields_of {A = Global} (command.ClearSelection selection.now))) }
@@ -64,7 +65,7 @@ fn append_selection(selection: &Selection, fields: &mut Fields) -> Result<(), Al
     fields.push_number(FieldName::Selection, i64::from(selection.bits()))
 }
 
-// Which selections, and their text.
+// Appends the selections, and their text.
 fn append_content(selection: &Selection, text: &Text, fields: &mut Fields) -> Result<(), AllocError>
     ensures ok { OnOk result (fields.new
         ≡ with_fields fields.old (fields_of {A = Global}
@@ -75,7 +76,7 @@ fn append_content(selection: &Selection, text: &Text, fields: &mut Fields) -> Re
     fields.push_text(FieldName::Text, text.as_bytes())
 }
 
-// A dynamic colour, and colours for it and those after it.
+// Appends a dynamic colour, and colours for it and those after it.
 fn append_dynamic(
     number: DynamicColorNumber,
     colors: &[ColorOrQuery],
@@ -90,7 +91,7 @@ fn append_dynamic(
     append_each(colors, fields)
 }
 
-// A dynamic colour.
+// Appends a dynamic colour.
 fn append_number(number: DynamicColorNumber, fields: &mut Fields) -> Result<(), AllocError>
     ensures ok { OnOk result (fields.new
         ≡ with_fields fields.old (fields_of {A = Global} (command.ResetDynamicColor number))) }

@@ -1,4 +1,5 @@
-//! The fields of deletions of kitty's images. An error is that memory was refused.
+//! This module appends the fields of deletions of kitty's images. An error is that memory was
+//! refused.
 ghost use Rattle.std.specs.Prelude.{◌≡◌, OnOk, OnErr};
 ghost use Rattle.std.specs.List.{flat_map};
 ghost use Rattle.flat_values.specs.Fields.{with_fields};
@@ -12,7 +13,7 @@ use crate::fields::Fields;
 use esc_kitty::KittyImageDelete as Delete;
 use std::alloc::{AllocError, Global};
 
-// What is deleted.
+// Appends what is deleted.
 pub(crate) fn append_delete(what: &Delete, fields: &mut Fields) -> Result<(), AllocError>
     ensures ok { OnOk result (fields.new
         ≡ with_fields fields.old (number_fields (delete_numbers what.now))) }
@@ -23,7 +24,7 @@ pub(crate) fn append_delete(what: &Delete, fields: &mut Fields) -> Result<(), Al
     fields.push_flag(FieldName::DeletesData, deletes_data(what))
 }
 
-// Which images, columns or rows.
+// Returns the images, columns or rows.
 fn places(what: &Delete) -> [(FieldName, Option<u32>); 2]
     ensures { flat_map (λ s. optional_field s.0 (counted_field s.1)) result
         ≡ number_fields (delete_places what.now) }
@@ -63,7 +64,7 @@ fn places(what: &Delete) -> [(FieldName, Option<u32>); 2]
     }
 }
 
-// Which order.
+// Returns the order.
 fn order(what: &Delete) -> Option<i32>
     ensures { result ≡ delete_order what.now }
 {
@@ -73,7 +74,7 @@ fn order(what: &Delete) -> Option<i32>
     }
 }
 
-// Whether the data too.
+// Returns whether the data is deleted too.
 fn deletes_data(what: &Delete) -> bool
     ensures { result ≡ deletes_data what.now }
 {

@@ -1,4 +1,4 @@
-//! The fields of files. An error is that memory was refused.
+//! This module appends the fields of files. An error is that memory was refused.
 ghost use Rattle.std.specs.Prelude.{◌≡◌, OnOk, OnErr};
 ghost use Rattle.flat_values.specs.Fields.{with_fields};
 ghost use Rattle.flat_values.specs.Proprietary.{dimension_fields, file_fields, shown_fields, size_fields};
@@ -12,7 +12,7 @@ use crate::image_numbers::flagged;
 use esc_iterm::{ITermDimension, ITermFileData};
 use std::alloc::{AllocError, Global};
 
-// The fields of a file.
+// Appends the fields of a file.
 #[tactic(auto, using(crate::proofs::Tables::with_more))]
 pub(crate) fn append_file(file: &ITermFileData, fields: &mut Fields) -> Result<(), AllocError>
     ensures ok { OnOk result (fields.new ≡ with_fields fields.old (file_fields file.now)) }
@@ -37,7 +37,7 @@ pub(crate) fn append_file(file: &ITermFileData, fields: &mut Fields) -> Result<(
     append_shown(file, fields)
 }
 
-// What a file is shown as, and what it holds.
+// Appends how a file is shown, and its content.
 fn append_shown(file: &ITermFileData, fields: &mut Fields) -> Result<(), AllocError>
     ensures ok { OnOk result (fields.new ≡ with_fields fields.old (shown_fields file.now)) }
     ensures refused { OnErr result (Refused Global) }
@@ -54,7 +54,7 @@ fn append_shown(file: &ITermFileData, fields: &mut Fields) -> Result<(), AllocEr
     fields.push_text(FieldName::Content, file.content.as_slice())
 }
 
-// Its size, where it is given.
+// Appends its size, if it is given.
 fn append_size(size: Option<usize>, fields: &mut Fields) -> Result<(), AllocError>
     ensures ok { OnOk result (fields.new ≡ with_fields fields.old (size_fields size)) }
     ensures refused { OnErr result (Refused Global) }
@@ -65,7 +65,7 @@ fn append_size(size: Option<usize>, fields: &mut Fields) -> Result<(), AllocErro
     }
 }
 
-// A dimension, under the name of its unit.
+// Appends a dimension, under the name of its unit.
 fn append_dimension(
     dimension: ITermDimension,
     cells: FieldName,

@@ -1,4 +1,4 @@
-//! The fields of kitty's images. An error is that memory was refused.
+//! This module appends the fields of kitty's images. An error is that memory was refused.
 ghost use Rattle.std.specs.Prelude.{◌≡◌, OnOk, OnErr};
 ghost use Rattle.flat_values.specs.Fields.{with_fields};
 ghost use Rattle.flat_values.specs.Images.{id_numbers, image_fields, number_fields, verbosity_numbers};
@@ -55,7 +55,7 @@ pub(crate) fn append_image(image: &KittyImage, fields: &mut Fields) -> Result<()
     }
 }
 
-// What is reported.
+// Appends what the terminal reports.
 fn append_verbosity(verbosity: KittyImageVerbosity, fields: &mut Fields) -> Result<(), AllocError>
     ensures ok { OnOk result (fields.new
         ≡ with_fields fields.old (number_fields (verbosity_numbers verbosity))) }
@@ -65,7 +65,7 @@ fn append_verbosity(verbosity: KittyImageVerbosity, fields: &mut Fields) -> Resu
     append_each(&numbers, fields)
 }
 
-// An image that is kept.
+// Appends an image that is kept.
 fn append_kept(
     transmit: &KittyImageTransmit,
     verbosity: KittyImageVerbosity,
@@ -79,7 +79,7 @@ fn append_kept(
     append_verbosity(verbosity, fields)
 }
 
-// An image that is kept and shown.
+// Appends an image that is kept and shown.
 fn append_shown(
     transmit: &KittyImageTransmit,
     placement: &KittyImagePlacement,
@@ -95,7 +95,7 @@ fn append_shown(
     append_verbosity(verbosity, fields)
 }
 
-// A kept image that is shown.
+// Appends a kept image that is shown.
 fn append_display(
     image_id: Option<u32>,
     image_number: Option<u32>,
@@ -112,7 +112,7 @@ fn append_display(
     append_verbosity(verbosity, fields)
 }
 
-// The id and the number of an image, where they are given.
+// Appends the id and the number of an image, if they are given.
 fn append_ids(
     image_id: Option<u32>,
     image_number: Option<u32>,
@@ -129,7 +129,7 @@ fn append_ids(
     append_each(&ids, fields)
 }
 
-// A frame that is kept.
+// Appends a frame that is kept.
 fn append_sent(
     transmit: &KittyImageTransmit,
     frame: &KittyImageFrame,
@@ -145,7 +145,7 @@ fn append_sent(
     append_verbosity(verbosity, fields)
 }
 
-// Frames that are put over others.
+// Appends frames that are put over others.
 fn append_composed(
     frame: &KittyImageFrameCompose,
     verbosity: KittyImageVerbosity,

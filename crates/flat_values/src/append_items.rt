@@ -1,5 +1,5 @@
-//! The fields of the items of lists, and of the progress of a task. An error is that memory was
-//! refused.
+//! This module appends the fields of the items of lists, and of the progress of a task. An error is
+//! that memory was refused.
 ghost use Rattle.std.specs.Prelude.{◌≡◌, OnOk, OnErr};
 ghost use Rattle.flat_values.specs.Commands.{color_fields, index_fields, pair_fields, part_fields, progress_fields};
 ghost use Rattle.flat_values.specs.Fields.{with_fields};
@@ -12,7 +12,7 @@ use esc_osc_values::{ChangeColorPair, ColorOrQuery, Progress};
 use esc_values::Items;
 use std::alloc::{AllocError, Global};
 
-// A colour, or the question for one.
+// A colour has fields, and so has the question for one.
 impl Fielded for ColorOrQuery {
     ghost parts = { color_fields };
 
@@ -31,7 +31,7 @@ impl Fielded for ColorOrQuery {
     }
 }
 
-// A place of the palette, and its colour.
+// A place of the palette has fields, with its colour.
 impl Fielded for ChangeColorPair {
     ghost parts = { pair_fields };
 
@@ -41,7 +41,7 @@ impl Fielded for ChangeColorPair {
     }
 }
 
-// A place of the palette.
+// A place of the palette has a field.
 impl Fielded for u8 {
     ghost parts = { index_fields };
 
@@ -50,7 +50,7 @@ impl Fielded for u8 {
     }
 }
 
-// A part of any bytes.
+// A part of any bytes has a field.
 impl Fielded for Items<u8> {
     ghost parts = { part_fields };
 
@@ -59,7 +59,7 @@ impl Fielded for Items<u8> {
     }
 }
 
-// The progress of a task.
+// Appends the progress of a task.
 pub(crate) fn append_progress(progress: &Progress, fields: &mut Fields) -> Result<(), AllocError>
     ensures ok { OnOk result (fields.new ≡ with_fields fields.old (progress_fields progress.now)) }
     ensures refused { OnErr result (Refused Global) }

@@ -1,4 +1,4 @@
-//! The fields of links. An error is that memory was refused.
+//! This module appends the fields of links. An error is that memory was refused.
 ghost use Rattle.std.specs.Prelude.{◌≡◌, OnOk, OnErr};
 ghost use Rattle.std.specs.List.{flat_map};
 ghost use Rattle.flat_values.specs.Fields.{with_fields};
@@ -11,7 +11,7 @@ use esc_links::Hyperlink;
 use esc_links::params::Iter;
 use std::alloc::{AllocError, Global};
 
-// The fields of a link, or of none.
+// Appends the fields of a link, or of none.
 pub(crate) fn append_link(link: &Option<Hyperlink>, fields: &mut Fields) -> Result<(), AllocError>
     ensures ok { OnOk result (fields.new ≡ with_fields fields.old (link_fields link.now)) }
     ensures refused { OnErr result (Refused Global) }
@@ -24,7 +24,7 @@ pub(crate) fn append_link(link: &Option<Hyperlink>, fields: &mut Fields) -> Resu
     append_parameters(link.params.iter(), fields)
 }
 
-// The keys of a link with their values.
+// Appends the keys of a link with their values.
 fn append_parameters(mut pairs: Iter<'_>, fields: &mut Fields) -> Result<(), AllocError>
     ensures ok { OnOk result
         (fields.new ≡ with_fields fields.old (flat_map parameter_fields pairs.entry)) }

@@ -1,5 +1,5 @@
-//! The fields of numbers by name, and of the parts of kitty's images. An error is that memory was
-//! refused.
+//! This module appends the fields of numbers by name, and of the parts of kitty's images. An error
+//! is that memory was refused.
 ghost use Rattle.std.specs.Prelude.{◌≡◌, [], ◌∷◌, OnOk, OnErr};
 ghost use Rattle.flat_values.specs.Fields.{with_fields};
 ghost use Rattle.flat_values.specs.Images.{compose_numbers, content_field, counted_field, frame_numbers, number_fields, optional_field, placement_numbers, placement_sizes, transmit_numbers};
@@ -15,7 +15,7 @@ use crate::image_numbers::{
 use esc_kitty::{KittyImageFrame, KittyImageFrameCompose, KittyImagePlacement, KittyImageTransmit};
 use std::alloc::{AllocError, Global};
 
-// A number from 0 up by name, where it is given.
+// A number from 0 up has a field by its name, if it is given.
 impl Fielded for (FieldName, Option<u32>) {
     ghost parts = { λ s. optional_field s.0 (counted_field s.1) };
 
@@ -27,7 +27,7 @@ impl Fielded for (FieldName, Option<u32>) {
     }
 }
 
-// An image on its way to the terminal.
+// Appends an image that is sent to the terminal.
 pub(crate) fn append_transmit(
     transmit: &KittyImageTransmit,
     fields: &mut Fields,
@@ -56,7 +56,7 @@ pub(crate) fn append_transmit(
     append_each(&numbers, fields)
 }
 
-// How an image is shown.
+// Appends how an image is shown.
 pub(crate) fn append_placement(
     placement: &KittyImagePlacement,
     fields: &mut Fields,
@@ -70,7 +70,7 @@ pub(crate) fn append_placement(
     fields.push_flag(FieldName::UnicodePlaceholder, placement.unicode_placeholder)
 }
 
-// Where an image is shown and how large, and whether the cursor stays.
+// Appends the place and the size of an image, and whether the cursor stays.
 fn append_sizes(placement: &KittyImagePlacement, fields: &mut Fields) -> Result<(), AllocError>
     ensures ok { OnOk result (fields.new
         ≡ with_fields fields.old (number_fields (placement_sizes placement.now))) }
@@ -94,7 +94,7 @@ fn append_sizes(placement: &KittyImagePlacement, fields: &mut Fields) -> Result<
     append_each(&sizes, fields)
 }
 
-// The order of an image above and below others, where it is given.
+// Appends the order of an image above and below others, if it is given.
 pub(crate) fn append_order(order: Option<i32>, fields: &mut Fields) -> Result<(), AllocError>
     ensures ok { OnOk result (fields.new
         ≡ with_fields fields.old (number_fields ((name.ZIndex, order) ∷ []))) }
@@ -106,7 +106,7 @@ pub(crate) fn append_order(order: Option<i32>, fields: &mut Fields) -> Result<()
     }
 }
 
-// A frame that is sent.
+// Appends a frame that is sent.
 pub(crate) fn append_frame(frame: &KittyImageFrame, fields: &mut Fields) -> Result<(), AllocError>
     ensures ok { OnOk result (fields.new
         ≡ with_fields fields.old (number_fields (frame_numbers frame.now))) }
@@ -127,7 +127,7 @@ pub(crate) fn append_frame(frame: &KittyImageFrame, fields: &mut Fields) -> Resu
     append_each(&numbers, fields)
 }
 
-// Frames that are put over others.
+// Appends frames that are put over others.
 pub(crate) fn append_compose(
     frame: &KittyImageFrameCompose,
     fields: &mut Fields,

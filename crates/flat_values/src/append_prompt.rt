@@ -1,4 +1,4 @@
-//! The fields of semantic prompts. An error is that memory was refused.
+//! This module appends the fields of semantic prompts. An error is that memory was refused.
 ghost use Rattle.std.specs.Prelude.{◌≡◌, ◌++◌, OnOk, OnErr, pos};
 ghost use Rattle.flat_values.specs.Fields.{with_fields};
 ghost use Rattle.flat_values.specs.Prompts.{aid_fields, click_fields, click_number, kind_number, prompt_fields};
@@ -10,7 +10,7 @@ use esc_prompts::{FinalTermClick, FinalTermPromptKind, FinalTermSemanticPrompt a
 use esc_values::Text;
 use std::alloc::{AllocError, Global};
 
-// The fields of a prompt.
+// Appends the fields of a prompt.
 pub(crate) fn append_prompt(prompt: &Prompt, fields: &mut Fields) -> Result<(), AllocError>
     ensures ok { OnOk result (fields.new ≡ with_fields fields.old (prompt_fields prompt.now)) }
     ensures refused { OnErr result (Refused Global) }
@@ -32,7 +32,7 @@ pub(crate) fn append_prompt(prompt: &Prompt, fields: &mut Fields) -> Result<(), 
     }
 }
 
-// The keys that are there.
+// Appends the keys that are there.
 #[tactic(auto, using(crate::proofs::Tables::with_more))]
 fn append_keys(
     aid: &Option<Text>,
@@ -50,7 +50,7 @@ fn append_keys(
     }
 }
 
-// The name of the application, where it is given.
+// Appends the name of the application, if it is given.
 fn append_aid(aid: &Option<Text>, fields: &mut Fields) -> Result<(), AllocError>
     ensures ok { OnOk result (fields.new ≡ with_fields fields.old (aid_fields aid.now)) }
     ensures refused { OnErr result (Refused Global) }
@@ -61,7 +61,7 @@ fn append_aid(aid: &Option<Text>, fields: &mut Fields) -> Result<(), AllocError>
     }
 }
 
-// The number of what a click does.
+// Returns the number of the effect of a click.
 fn click_number(click: FinalTermClick) -> i64
     ensures { result ≡ pos (click_number click) }
 {
@@ -73,7 +73,7 @@ fn click_number(click: FinalTermClick) -> i64
     }
 }
 
-// The number of a kind of prompt.
+// Returns the number of a kind of prompt.
 fn kind_number(kind: FinalTermPromptKind) -> i64
     ensures { result ≡ pos (kind_number kind) }
 {

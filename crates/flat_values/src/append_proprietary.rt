@@ -1,4 +1,4 @@
-//! The fields of iTerm2's commands. An error is that memory was refused.
+//! This module appends the fields of iTerm2's commands. An error is that memory was refused.
 ghost use Rattle.std.specs.Prelude.{◌≡◌, OnOk, OnErr};
 ghost use Rattle.flat_values.specs.Fields.{with_fields};
 ghost use Rattle.flat_values.specs.Proprietary.{iterm_fields, text_fields, version_fields};
@@ -12,7 +12,7 @@ use esc_iterm::{ITermProprietary, ITermUnicodeVersionOp};
 use esc_values::Text;
 use std::alloc::{AllocError, Global};
 
-// The fields of a command of iTerm2.
+// Appends the fields of a command of iTerm2.
 pub(crate) fn append_proprietary(
     command: &ITermProprietary,
     fields: &mut Fields,
@@ -53,7 +53,7 @@ pub(crate) fn append_proprietary(
     }
 }
 
-// The size of a cell.
+// Appends the size of a cell.
 fn append_cell_size(
     height: u32,
     width: u32,
@@ -72,7 +72,7 @@ fn append_cell_size(
     }
 }
 
-// The version that is set, or the label under which one is kept or brought back.
+// Appends the version that is set, or the label under which one is kept or brought back.
 fn append_version(version: &ITermUnicodeVersionOp, fields: &mut Fields) -> Result<(), AllocError>
     ensures ok { OnOk result (fields.new ≡ with_fields fields.old (version_fields version.now)) }
     ensures refused { OnErr result (Refused Global) }
@@ -87,7 +87,7 @@ fn append_version(version: &ITermUnicodeVersionOp, fields: &mut Fields) -> Resul
     }
 }
 
-// A text of this name, where there is one.
+// Appends a text of this name, if there is one.
 pub(crate) fn append_optional(
     name: FieldName,
     text: &Option<Text>,

@@ -1,4 +1,4 @@
-//! The kinds of commands.
+//! This module defines the kinds of commands.
 ghost use Rattle.std.specs.Prelude.{◌≡◌};
 ghost use Rattle.flat_values.specs.Kinds.{iterm_kind, kind_number, kind_of, prompt_kind, version_kind};
 
@@ -6,11 +6,11 @@ use esc_iterm::{ITermProprietary, ITermUnicodeVersionOp};
 use esc_osc::OperatingSystemCommand as Command;
 use esc_prompts::FinalTermSemanticPrompt as Prompt;
 
-/// Which command it is. The commands of iTerm2 and the prompts have a kind each, and so have the
-/// three things that are done to the version of Unicode. Each names the
-/// [fields](crate::FieldName) that it has, in order: `?` says that one may be absent, and `*` that
-/// what is before it comes once for each item. The numbers are those of the header for C, so a new
-/// kind comes last.
+/// The kind says which command it is. The commands of iTerm2 and the prompts have a kind each, and
+/// so have the three operations on the version of Unicode. Each kind names its
+/// [fields](crate::FieldName), in order: `?` says that one may be absent, and `*` that the text
+/// before it comes once for each item. The numbers are those of the header for C, so a new kind
+/// comes last.
 #[derive(Clone, Copy)]
 pub enum CommandKind {
     /// `Part*`: any other command, as its parts.
@@ -25,7 +25,7 @@ pub enum CommandKind {
     SetIconName,
     /// `Text`.
     SetIconNameSun,
-    /// `Uri Implicit (Key Value)*`; nothing where the link ends.
+    /// `Uri Implicit (Key Value)*`; nothing if the link ends.
     SetHyperlink,
     /// `Selection`.
     ClearSelection,
@@ -35,16 +35,16 @@ pub enum CommandKind {
     SetSelection,
     /// `Text`.
     SystemNotification,
-    /// `(PaletteIndex Red Green Blue)*`, where each colour may be a `Query` in place of the three.
+    /// `(PaletteIndex Red Green Blue)*`; each colour may be a `Query` in place of the three.
     ChangeColorNumber,
-    /// `DynamicColor (Red Green Blue)*`, where each colour may be a `Query` in place of the three.
-    /// The first colour is for that number, the next for the next number.
+    /// `DynamicColor (Red Green Blue)*`; each colour may be a `Query` in place of the three. The
+    /// first colour is for that number, the next for the next number.
     ChangeDynamicColors,
     /// `DynamicColor`.
     ResetDynamicColor,
     /// `Directory`.
     CurrentWorkingDirectory,
-    /// `PaletteIndex*`; nothing where all colours are reset.
+    /// `PaletteIndex*`; nothing if all colours are reset.
     ResetColors,
     /// `Part*`.
     RxvtExtension,
@@ -94,7 +94,7 @@ pub enum CommandKind {
     ITermSetUserVar,
     /// `Text`.
     ITermSetBadgeFormat,
-    /// `Name?`; `Size?`; the width in one of its three units, or nothing where it is automatic; the
+    /// `Name?`; `Size?`; the width in one of its three units, or nothing if it is automatic; the
     /// height as well; `PreserveAspectRatio Inline DoNotMoveCursor Content`.
     ITermFile,
     /// `Version`.
@@ -106,7 +106,7 @@ pub enum CommandKind {
 }
 
 impl CommandKind {
-    /// The kind of this command.
+    /// Returns the kind of this command.
     pub fn of(command: &Command) -> CommandKind
         ensures { result ≡ kind_of command.now }
     {
@@ -134,7 +134,7 @@ impl CommandKind {
         }
     }
 
-    /// Its number: its place in this order, from 0.
+    /// Returns its number: its place in this order, from 0.
     pub fn number(self) -> u32
         ensures { result ≡ kind_number self }
     {
@@ -142,7 +142,7 @@ impl CommandKind {
     }
 }
 
-// The kind of a command of iTerm2.
+// Returns the kind of a command of iTerm2.
 fn proprietary(command: &ITermProprietary) -> CommandKind
     ensures { result ≡ iterm_kind command.now }
 {
@@ -166,7 +166,7 @@ fn proprietary(command: &ITermProprietary) -> CommandKind
     }
 }
 
-// The kind of what is done to the version of Unicode.
+// Returns the kind of an operation on the version of Unicode.
 fn versioned(version: &ITermUnicodeVersionOp) -> CommandKind
     ensures { result ≡ version_kind version.now }
 {
@@ -177,7 +177,7 @@ fn versioned(version: &ITermUnicodeVersionOp) -> CommandKind
     }
 }
 
-// The kind of a prompt.
+// Returns the kind of a prompt.
 fn prompted(prompt: &Prompt) -> CommandKind
     ensures { result ≡ prompt_kind prompt.now }
 {

@@ -1,4 +1,4 @@
-//! The fields of lists, item by item. An error is that memory was refused.
+//! This module appends the fields of lists, item by item. An error is that memory was refused.
 ghost use Rattle.std.specs.Prelude.{◌≡◌, ◌∷◌, [], OnOk, OnErr};
 ghost use Rattle.std.specs.List.{flat_map};
 ghost use Rattle.flat_values.specs.Fields.{text_field, with_fields};
@@ -9,20 +9,20 @@ use crate::fields::Fields;
 use esc_values::Text;
 use std::alloc::{AllocError, Global};
 
-// An item that has fields.
+// An item has fields.
 pub(crate) trait Fielded {
     ghost use Rattle.std.specs.Prelude.{List};
     ghost use Rattle.flat_values.specs.Fields.{Field};
 
     ghost parts: { Self → List Field };
 
-    // Appends them.
+    // Appends its fields.
     fn append_to(&self, fields: &mut Fields) -> Result<(), AllocError>
         ensures ok { OnOk result (fields.new ≡ with_fields fields.old (parts self.now)) }
         ensures refused { OnErr result (Refused Global) };
 }
 
-// Appends those of each item.
+// Appends the fields of each item.
 pub(crate) fn append_each<T: Fielded>(items: &[T], fields: &mut Fields) -> Result<(), AllocError>
     ensures ok { OnOk result (fields.new ≡ with_fields fields.old (flat_map T.parts items.now)) }
     ensures refused { OnErr result (Refused Global) }

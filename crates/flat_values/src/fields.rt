@@ -1,4 +1,4 @@
-//! The fields of a command, an image or a query.
+//! This module defines the fields of a command, an image or a query.
 ghost use Rattle.std.specs.Prelude.{◌≡◌, ◌++◌, ◌∷◌, [], IfOk, OnOk, OnErr};
 ghost use Rattle.flat_values.specs.Commands.{fields_of};
 ghost use Rattle.flat_values.specs.Fields.{flag_field, signed_field, size_field, table_of, text_field, with_field};
@@ -17,7 +17,7 @@ use esc_values::Text;
 use std::alloc::{AllocError, Global};
 use std::marker::Model;
 
-/// The fields of a command, an image or a query: a row for each, and their texts one after another.
+/// A command, an image or a query has fields: a row for each, and their texts one after another.
 /// Contracts see the rows and that text.
 #[derive(Drop)]
 pub struct Fields {
@@ -35,7 +35,7 @@ impl Model for Fields {
 }
 
 impl Fields {
-    /// The fields of this command. The error is that memory was refused.
+    /// Returns the fields of this command. The error is that memory was refused.
     pub fn of(alloc: Global, command: &OperatingSystemCommand) -> Result<Fields, AllocError>
         ensures ok { IfOk result (λ f. f ≡ table_of (fields_of command.now)) }
         ensures refused { OnErr result (Refused Global) }
@@ -45,8 +45,8 @@ impl Fields {
         Ok(fields)
     }
 
-    /// The fields of this image of kitty's; none where it is none. The error is that memory was
-    /// refused.
+    /// Returns the fields of this image of kitty's; no fields if it is none. The error is that
+    /// memory was refused.
     pub fn of_image(alloc: Global, image: &Option<KittyImage>) -> Result<Fields, AllocError>
         ensures ok { IfOk result (λ f. f ≡ table_of (fields_of_image image.now)) }
         ensures refused { OnErr result (Refused Global) }
@@ -58,7 +58,7 @@ impl Fields {
         Ok(fields)
     }
 
-    /// The fields of a termcap query for these names. The error is that memory was refused.
+    /// Returns the fields of a termcap query for these names. The error is that memory was refused.
     pub fn of_names(alloc: Global, names: &[Text]) -> Result<Fields, AllocError>
         ensures ok { IfOk result (λ f. f ≡ table_of (query_fields names.now)) }
         ensures refused { OnErr result (Refused Global) }
@@ -68,7 +68,7 @@ impl Fields {
         Ok(fields)
     }
 
-    // No fields.
+    // Returns no fields.
     fn new(alloc: Global) -> Fields
         ensures { result ≡ ([], []) }
     {
@@ -80,14 +80,14 @@ impl Fields {
 }
 
 impl Fields {
-    /// A row for each field, in order.
+    /// Returns a row for each field, in order.
     pub fn rows(&self) -> &[FieldRow]
         ensures { result.now ≡ self.now.0 }
     {
         self.rows.as_slice()
     }
 
-    /// The texts of the fields, one after another.
+    /// Returns the texts of the fields, one after another.
     pub fn text(&self) -> &[u8]
         ensures { result.now ≡ self.now.1 }
     {

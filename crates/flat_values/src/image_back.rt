@@ -1,4 +1,4 @@
-//! The kitty image of a kind and fields.
+//! This module reads the kitty image of a kind and fields.
 ghost use Rattle.std.specs.Prelude.{◌≡◌, ◌↔◌, IfOk, IfSome, IsTrue, None, OnErr, Some};
 ghost use Rattle.flat_values.specs.Fields.{table_values};
 ghost use Rattle.flat_values.specs.Found.{held_form};
@@ -17,9 +17,9 @@ use crate::said::said_by;
 use esc_kitty::KittyImage as Image;
 use std::alloc::{AllocError, Global};
 
-/// The kitty image of a kind, by its number, with these fields: rows, and their texts one after
-/// another, as [`Fields::of_image`] has them. None where no image has this kind and these fields.
-/// The error is that memory was refused.
+/// Returns the kitty image of a kind, by its number, with these fields: rows, and their texts one
+/// after another, as [`Fields::of_image`] has them. None if no image has this kind and these
+/// fields. The error is that memory was refused.
 pub fn image_of(
     alloc: Global,
     kind: u32,
@@ -36,7 +36,7 @@ pub fn image_of(
     kept_some(image, has)
 }
 
-// The image that they say.
+// Returns the image that they say.
 fn image_said(
     alloc: Global,
     kind: u32,
@@ -51,7 +51,7 @@ fn image_said(
     image(alloc, image_form_at(kind), fields.as_slice())
 }
 
-// A value, where there is one and it is kept.
+// Returns a value, if there is one and it is kept.
 fn kept_some<T: Drop>(
     value: Option<T>,
     is_kept: Result<bool, AllocError>,
@@ -65,8 +65,8 @@ fn kept_some<T: Drop>(
     }
 }
 
-/// Whether a kitty image, or none, has this kind, by its number, and these fields. The error is
-/// that memory was refused.
+/// Returns whether a kitty image, or none, has this kind, by its number, and these fields. The
+/// error is that memory was refused.
 pub fn has_image(
     alloc: Global,
     image: &Option<Image>,

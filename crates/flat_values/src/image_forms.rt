@@ -1,38 +1,38 @@
-//! How a kitty image is found: its kinds by their numbers, in forms that are read alike.
+//! This module finds a kitty image: its kinds by their numbers, in forms that are read alike.
 ghost use Rattle.std.specs.Prelude.{◌≡◌};
 ghost use Rattle.flat_values.specs.FoundImages.{image_form_at};
 
 use self::ImageForm::{Deleted, Sent};
 
-// A kind, by how its image is read.
+// The form says how the image of a kind is read.
 #[derive(Clone, Copy)]
 pub(crate) enum ImageForm {
-    // No image.
+    // is no image
     Nothing,
-    // One with a text.
+    // has a text
     Sent(Sending),
-    // A kept one that is shown.
+    // is a kept image that is shown
     Displayed,
-    // Frames that are put over others.
+    // has frames that are put over others
     Composed,
-    // A deletion.
+    // is a deletion
     Deleted(Deletion),
 }
 
-// Those with a text.
+// These have a text.
 #[derive(Clone, Copy)]
 pub(crate) enum Sending {
-    // An image that is kept.
+    // keeps an image
     Kept,
-    // One that is kept and shown.
+    // keeps an image and shows it
     Shown,
-    // Whether one could be kept.
+    // asks whether an image could be kept
     Asked,
-    // A frame that is kept.
+    // keeps a frame
     Frame,
 }
 
-// The deletions.
+// These are deletions.
 #[derive(Clone, Copy)]
 pub(crate) enum Deletion {
     All,
@@ -48,7 +48,7 @@ pub(crate) enum Deletion {
     Range,
 }
 
-// The kinds in the order of their numbers, which is that of `ImageKind`.
+// has the kinds in the order of their numbers, which is that of `ImageKind`
 const IMAGE_FORMS: [ImageForm; 18] = [
     ImageForm::Nothing,
     Sent(Sending::Kept),
@@ -70,7 +70,7 @@ const IMAGE_FORMS: [ImageForm; 18] = [
     Deleted(Deletion::Range),
 ];
 
-// How the image of the kind of this number is read; as none where there is none.
+// Returns the form of the kind of this number; that of no image if there is no such kind.
 pub(crate) fn image_form_at(number: u32) -> ImageForm
     ensures { result ≡ image_form_at number }
 {

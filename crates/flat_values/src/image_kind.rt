@@ -1,18 +1,18 @@
-//! The kinds of kitty's images.
+//! This module defines the kinds of kitty's images.
 ghost use Rattle.std.specs.Prelude.{◌≡◌};
 ghost use Rattle.flat_values.specs.ImageKinds.{delete_kind, image_kind, image_number};
 
 use esc_kitty::{KittyImage, KittyImageDelete};
 
-/// Which command of kitty's graphics protocol it is; a deletion has a kind for each of what is
-/// deleted. Each names the [fields](crate::FieldName) that it has, in order: `?` says that one may
-/// be absent. `transmit` is `Content Medium DataSize? DataOffset? Format? PixelWidth? PixelHeight?
-/// ImageId? ImageNumber? Compression MoreDataFollows`, and `placement` is `X? Y? Width? Height?
-/// XOffset? YOffset? Columns? Rows? PlacementId? DoNotMoveCursor ZIndex? UnicodePlaceholder`. The
-/// numbers are those of the header for C, so a new kind comes last.
+/// The kind says which command of kitty's graphics protocol it is; deletions have a kind each. Each
+/// kind names its [fields](crate::FieldName), in order: `?` says that one may be absent. `transmit`
+/// is `Content Medium DataSize? DataOffset? Format? PixelWidth? PixelHeight? ImageId? ImageNumber?
+/// Compression MoreDataFollows`, and `placement` is `X? Y? Width? Height? XOffset? YOffset?
+/// Columns? Rows? PlacementId? DoNotMoveCursor ZIndex? UnicodePlaceholder`. The numbers are those
+/// of the header for C, so a new kind comes last.
 #[derive(Clone, Copy)]
 pub enum ImageKind {
-    /// No field: what is no image.
+    /// No field: the kind of no image.
     NoImage,
     /// `transmit Verbosity`.
     TransmitData,
@@ -53,7 +53,7 @@ pub enum ImageKind {
 }
 
 impl ImageKind {
-    /// The kind of this image, or of none.
+    /// Returns the kind of this image, or of none.
     pub fn of(image: &Option<KittyImage>) -> ImageKind
         ensures { result ≡ image_kind image.now }
     {
@@ -71,7 +71,7 @@ impl ImageKind {
         }
     }
 
-    /// Its number: its place in this order, from 0.
+    /// Returns its number: its place in this order, from 0.
     pub fn number(self) -> u32
         ensures { result ≡ image_number self }
     {
@@ -79,7 +79,7 @@ impl ImageKind {
     }
 }
 
-// The kind of what is deleted.
+// Returns the kind of a deletion.
 fn deleted(what: &KittyImageDelete) -> ImageKind
     ensures { result ≡ delete_kind what.now }
 {

@@ -1,4 +1,4 @@
-//! The numbers of what kitty's protocol has words for.
+//! This module numbers the words of kitty's protocol.
 ghost use Rattle.std.specs.Prelude.{◌≡◌, Some};
 ghost use Rattle.std.specs.Option.{option_map};
 ghost use Rattle.flat_values.specs.Images.{bytes_of, composition_number, compression_number, counted_field, flagged, format_number, medium_number, verbosity_number};
@@ -9,14 +9,14 @@ use esc_kitty::{
     KittyImageVerbosity,
 };
 
-// A flag.
+// Returns the number of a flag.
 pub(crate) fn flagged(flag: bool) -> Option<u32>
     ensures { counted_field result ≡ flagged flag }
 {
     Some(if flag { 1 } else { 0 })
 }
 
-// What is reported.
+// Returns the number of a verbosity.
 pub(crate) fn verbosity_number(verbosity: KittyImageVerbosity) -> Option<u32>
     ensures { result ≡ Some (verbosity_number verbosity) }
 {
@@ -27,7 +27,7 @@ pub(crate) fn verbosity_number(verbosity: KittyImageVerbosity) -> Option<u32>
     }
 }
 
-// The format of pixels, where it is given.
+// Returns the number of the format of pixels, if it is given.
 pub(crate) fn format(format: Option<KittyImageFormat>) -> Option<u32>
     ensures { result ≡ option_map format_number format }
 {
@@ -39,7 +39,7 @@ pub(crate) fn format(format: Option<KittyImageFormat>) -> Option<u32>
     }
 }
 
-// How pixels are compressed.
+// Returns the number of a compression.
 pub(crate) fn compression(compression: KittyImageCompression) -> Option<u32>
     ensures { result ≡ Some (compression_number compression) }
 {
@@ -49,7 +49,7 @@ pub(crate) fn compression(compression: KittyImageCompression) -> Option<u32>
     }
 }
 
-// How pixels are put over others.
+// Returns the number of a composition mode.
 pub(crate) fn composition(mode: KittyFrameCompositionMode) -> Option<u32>
     ensures { result ≡ Some (composition_number mode) }
 {
@@ -59,7 +59,7 @@ pub(crate) fn composition(mode: KittyFrameCompositionMode) -> Option<u32>
     }
 }
 
-// Which of five it is that an image is made of.
+// Returns the number of the medium, which is one of five.
 pub(crate) fn medium(content: &KittyImageData) -> Option<u32>
     ensures { result ≡ Some (medium_number content.now) }
 {
@@ -72,7 +72,7 @@ pub(crate) fn medium(content: &KittyImageData) -> Option<u32>
     }
 }
 
-// How many bytes it has, where they are given.
+// Returns how many bytes it has, if they are given.
 pub(crate) fn data_size(content: &KittyImageData) -> Option<u32>
     ensures { result ≡ size_in content.now }
 {
@@ -84,7 +84,7 @@ pub(crate) fn data_size(content: &KittyImageData) -> Option<u32>
     }
 }
 
-// How many bytes come before them, where they are given.
+// Returns how many bytes come before them, if they are given.
 pub(crate) fn data_offset(content: &KittyImageData) -> Option<u32>
     ensures { result ≡ offset_in content.now }
 {
@@ -96,7 +96,7 @@ pub(crate) fn data_offset(content: &KittyImageData) -> Option<u32>
     }
 }
 
-// Its text.
+// Returns the text of the content.
 pub(crate) fn bytes(content: &KittyImageData) -> &[u8]
     ensures { result.now ≡ bytes_of content.now }
 {

@@ -1,25 +1,25 @@
-//! How a command is found: its kinds by their numbers, in groups that are read alike.
+//! This module finds a command: its kinds by their numbers, in groups that are read alike.
 ghost use Rattle.std.specs.Prelude.{◌≡◌};
 ghost use Rattle.flat_values.specs.FoundCommands.{form_at};
 
 use self::Form::{Bare, ITerm, Other, Prompt, Text};
 
-// A kind, by how its command is read.
+// The form says how the command of a kind is read.
 #[derive(Clone, Copy)]
 pub(crate) enum Form {
-    // None of those below.
+    // is none of those below
     Other(OtherKind),
-    // From nothing.
+    // is read from nothing
     Bare(BareKind),
-    // From one text.
+    // is read from one text
     Text(TextKind),
-    // Any other prompt.
+    // is any other prompt
     Prompt(PromptForm),
-    // Any other of iTerm2.
+    // is any other command of iTerm2
     ITerm(ITermKind),
 }
 
-// The commands that have nothing.
+// These commands have nothing.
 #[derive(Clone, Copy)]
 pub(crate) enum BareKind {
     PromptFreshLine,
@@ -32,7 +32,7 @@ pub(crate) enum BareKind {
     ITermRequestCellSize,
 }
 
-// The commands that have one text.
+// These commands have one text.
 #[derive(Clone, Copy)]
 pub(crate) enum TextKind {
     IconNameAndWindowTitle,
@@ -50,7 +50,7 @@ pub(crate) enum TextKind {
     ITermSetBadgeFormat,
 }
 
-// The other prompts.
+// These are the other prompts.
 #[derive(Clone, Copy)]
 pub(crate) enum PromptForm {
     FreshLineAndStart,
@@ -60,7 +60,7 @@ pub(crate) enum PromptForm {
     CommandStatus,
 }
 
-// The others of iTerm2.
+// These are the other commands of iTerm2.
 #[derive(Clone, Copy)]
 pub(crate) enum ITermKind {
     HighlightCursorLine,
@@ -72,7 +72,7 @@ pub(crate) enum ITermKind {
     PopVersion,
 }
 
-// The others.
+// These are the other commands.
 #[derive(Clone, Copy)]
 pub(crate) enum OtherKind {
     Unspecified,
@@ -88,7 +88,7 @@ pub(crate) enum OtherKind {
     Progress,
 }
 
-// The kinds in the order of their numbers, which is that of `CommandKind`.
+// has the kinds in the order of their numbers, which is that of `CommandKind`
 const FORMS: [Form; 44] = [
     Other(OtherKind::Unspecified),
     Text(TextKind::IconNameAndWindowTitle),
@@ -136,8 +136,8 @@ const FORMS: [Form; 44] = [
     ITerm(ITermKind::PopVersion),
 ];
 
-// How the command of the kind of this number is read; as one that is kept as its parts where there
-// is none.
+// Returns the form of the kind of this number; that of a command that is kept as its parts if there
+// is no such kind.
 pub(crate) fn form_at(number: u32) -> Form
     ensures { result ≡ form_at number }
 {

@@ -1,5 +1,5 @@
-//! Laws of fields: rows say what fields hold, fields are the whole of a command, an
-//! image and a query, and so is a row of a piece of sixel data.
+//! Laws of fields say that rows have the names and values of fields, and that fields are the whole
+//! of a command, an image or a query, as a row is of a sixel item.
 ghost use Rattle.std.specs.Prelude.{◌≡◌, ◌≤◌, ℕ, ℤ, List, Option, length, map};
 ghost use Rattle.flat_values.specs.Commands.{fields_of};
 ghost use Rattle.flat_values.specs.Fields.{Field, named_values, table_values, table_of};
@@ -30,14 +30,14 @@ pub fn are_whole<A: Allocator>()
         → table_of (fields_of c) ≡ table_of (fields_of d) → c ≡ d }
 {}
 
-/// So they are of an image of kitty's, or of none.
+/// They are the whole of an image of kitty's, or of none, too.
 pub fn images_are_whole<A: Allocator>()
     ensures { (i j : Option (KittyImage A))
         → image_number (image_kind i) ≡ image_number (image_kind j)
         → table_of (fields_of_image i) ≡ table_of (fields_of_image j) → i ≡ j }
 {}
 
-/// A row is the whole of a piece of sixel data.
+/// A row is the whole of a sixel item.
 #[tactic(auto, using(crate::proofs::SixelsFound::sixels_whole))]
 pub fn sixel_rows_are_whole()
     ensures { (d e : SixelData) → sixel_row d ≡ sixel_row e → d ≡ e }
@@ -50,7 +50,7 @@ pub fn queries_are_whole()
         → ns ≡ ms }
 {}
 
-/// A sixel image has no more pieces of data than bytes that it was read from.
+/// A sixel image has no more items than bytes that it was read from.
 #[tactic(auto, using(crate::proofs::SixelsFew::content_few))]
 pub fn sixel_items_are_few<A: Allocator>()
     ensures { (ps : List ℤ) (s : List ℕ)

@@ -1,10 +1,11 @@
-//! The value of an operating system command, an image of kitty's or a termcap query as a flat list
-//! of fields, and sixel data as rows: for callers of `escape_c`, who have no enums with values.
+//! This crate gives the value of an operating system command, an image of kitty's or a termcap
+//! query as a flat list of fields, and sixel data as rows: for callers of `escape_c`, who have no
+//! enums with values.
 //!
 //! A command has a [`CommandKind`], and an image an [`ImageKind`]. [`Fields`] holds the parts in
-//! order, each under a [`FieldName`]: what is optional is a field that is absent. A piece of sixel
-//! data is a [`SixelRow`]. The way back: [`command_of`], [`image_of`], [`names_of`] and
-//! [`sixel_items_of`].
+//! order, each under a [`FieldName`]: an optional part that is not given has no field. An item of
+//! sixel data is a [`SixelRow`]. [`command_of`], [`image_of`], [`names_of`] and [`sixel_items_of`]
+//! read them back.
 //!
 //! ```text
 //! let command = OperatingSystemCommand::parse(alloc, &[b"52", b"c", b"aGVsbG8="])?;

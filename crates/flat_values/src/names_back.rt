@@ -1,4 +1,4 @@
-//! The names of a termcap query from fields.
+//! This module reads the names of a termcap query from fields.
 ghost use Rattle.std.specs.Prelude.{◌≡◌, ◌↔◌, ℕ, List, IfOk, IfSome, IsTrue, None, OnErr};
 ghost use Rattle.flat_values.specs.Fields.{table_values};
 ghost use Rattle.flat_values.specs.Found.{held_form};
@@ -14,9 +14,9 @@ use crate::said::said_by;
 use esc_values::{Items, Text};
 use std::alloc::{AllocError, Global};
 
-/// The names of a termcap query that have these fields: rows, and their texts one after another, as
-/// [`Fields::of_names`] has them. None where no names have them. The error is that memory was
-/// refused.
+/// Returns the names of a termcap query that have these fields: rows, and their texts one after
+/// another, as [`Fields::of_names`] has them. None if no names have them. The error is that memory
+/// was refused.
 pub fn names_of(
     alloc: Global,
     rows: &[FieldRow],
@@ -32,7 +32,7 @@ pub fn names_of(
     kept(names, has)
 }
 
-// The names that they say.
+// Returns the names that they say.
 fn names_said(alloc: Global, rows: &[FieldRow], text: &[u8]) -> Result<Items<Text>, AllocError>
     ensures ok { IfOk result (λ ns. ns ≡ names_in held_form (table_values (rows.now, text.now))) }
     ensures refused { OnErr result (Refused Global) }
@@ -41,7 +41,7 @@ fn names_said(alloc: Global, rows: &[FieldRow], text: &[u8]) -> Result<Items<Tex
     items(alloc, fields.as_slice())
 }
 
-// Whether names have these fields.
+// Returns whether names have these fields.
 fn has_names(
     alloc: Global,
     names: &[Text],

@@ -1,4 +1,4 @@
-//! The command of a kind and fields.
+//! This module reads the command of a kind and fields.
 ghost use Rattle.std.specs.Prelude.{◌≡◌, ◌↔◌, IfOk, IfSome, IsTrue, None, OnErr};
 ghost use Rattle.flat_values.specs.Fields.{table_values};
 ghost use Rattle.flat_values.specs.Found.{held_form, kept};
@@ -16,8 +16,8 @@ use crate::said::said_by;
 use esc_osc::OperatingSystemCommand as Command;
 use std::alloc::{AllocError, Global};
 
-/// The command of a kind, by its number, with these fields: rows, and their texts one after
-/// another, as [`Fields::of`] has them. None where no command has this kind and these fields. The
+/// Returns the command of a kind, by its number, with these fields: rows, and their texts one after
+/// another, as [`Fields::of`] has them. None if no command has this kind and these fields. The
 /// error is that memory was refused.
 pub fn command_of(
     alloc: Global,
@@ -35,7 +35,7 @@ pub fn command_of(
     kept(command, has)
 }
 
-// The command that they say.
+// Returns the command that they say.
 fn command_said(
     alloc: Global,
     kind: u32,
@@ -50,7 +50,7 @@ fn command_said(
     command(alloc, form_at(kind), fields.as_slice())
 }
 
-// A value, where it is kept.
+// Returns a value, if it is kept.
 pub(crate) fn kept<T: Drop>(
     value: T,
     is_kept: Result<bool, AllocError>,
@@ -64,8 +64,8 @@ pub(crate) fn kept<T: Drop>(
     }
 }
 
-/// Whether a command has this kind, by its number, and these fields. The error is that memory was
-/// refused.
+/// Returns whether a command has this kind, by its number, and these fields. The error is that
+/// memory was refused.
 pub fn has_fields(
     alloc: Global,
     command: &Command,
@@ -81,14 +81,14 @@ pub fn has_fields(
     Ok(same_kind && are_those(&fields, rows, text))
 }
 
-/// Whether fields have these rows and texts.
+/// Returns whether fields have these rows and texts.
 pub fn are_those(fields: &Fields, rows: &[FieldRow], text: &[u8]) -> bool
     ensures { IsTrue result ↔ (fields.now ≡ (rows.now, text.now)) }
 {
     are_rows(fields.rows(), rows) && fields.text() == text
 }
 
-// Whether the rows are those.
+// Returns whether the rows are those.
 fn are_rows(rows: &[FieldRow], those: &[FieldRow]) -> bool
     ensures { IsTrue result ↔ (rows.now ≡ those.now) }
 {

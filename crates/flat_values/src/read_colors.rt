@@ -1,5 +1,5 @@
-//! Colours, dynamic colours and the progress of a task that rows say. An error is that memory was
-//! refused.
+//! This module reads colours, dynamic colours and the progress of a task from rows. An error is
+//! that memory was refused.
 ghost use Rattle.std.specs.Prelude.{◌≡◌, IfOk, OnErr};
 ghost use Rattle.flat_values.specs.Found.{held_form};
 ghost use Rattle.flat_values.specs.FoundItems.{dynamic_of, items_after, known, nothing, placed_pair, progress_in, whole};
@@ -11,7 +11,7 @@ use esc_osc_values::{ChangeColorPair, Color16, ColorOrQuery, DynamicColorNumber,
 use esc_values::Items;
 use std::alloc::{AllocError, Global};
 
-// What is known of an item before its last row.
+// The value holds the known parts of an item before its last row.
 #[derive(Clone, Copy)]
 pub(crate) struct Known {
     place: u8,
@@ -19,14 +19,14 @@ pub(crate) struct Known {
     green: u16,
 }
 
-// Nothing.
+// has no known part
 const NOTHING: Known = Known {
     place: 0,
     red: 0,
     green: 0,
 };
 
-// The same with a row more.
+// Returns the known parts with one more row.
 fn known_with(before: Known, field: &Said<'_>) -> Known
     ensures { result ≡ known held_form before field.now }
 {
@@ -49,7 +49,7 @@ fn known_with(before: Known, field: &Said<'_>) -> Known
     }
 }
 
-// The colour that is whole with a row.
+// Returns the colour that is whole with a row.
 fn whole(before: Known, field: &Said<'_>) -> Option<ColorOrQuery>
     ensures { result ≡ whole held_form before field.now }
 {
@@ -66,14 +66,14 @@ fn whole(before: Known, field: &Said<'_>) -> Option<ColorOrQuery>
     }
 }
 
-// An item that a colour makes, with the place of the palette before it.
+// A colour makes an item, with the place of the palette before it.
 pub(crate) trait Colored {
     ghost use Rattle.std.specs.Prelude.{ℕ};
     ghost use Rattle.esc_osc_values.specs.declared.color_or_query.ColorOrQuery.{ColorOrQuery};
 
     ghost colored: { ℕ → ColorOrQuery → Self };
 
-    // The item.
+    // Returns the item.
     fn of(place: u8, color: ColorOrQuery) -> Self
         ensures { result ≡ colored place color };
 }
@@ -97,7 +97,7 @@ impl Colored for ColorOrQuery {
     }
 }
 
-// Items, each with its colour.
+// Reads items, each with its colour.
 pub(crate) fn colored_items<T: Colored + Drop>(
     alloc: Global,
     fields: &[Said<'_>],
@@ -118,7 +118,7 @@ pub(crate) fn colored_items<T: Colored + Drop>(
     Ok(items)
 }
 
-// A dynamic colour.
+// Reads a dynamic colour.
 pub(crate) fn dynamic(field: &Said<'_>) -> DynamicColorNumber
     ensures { result ≡ dynamic_of field.now.1 }
 {
@@ -128,7 +128,7 @@ pub(crate) fn dynamic(field: &Said<'_>) -> DynamicColorNumber
     }
 }
 
-// The progress of a task.
+// Reads the progress of a task.
 pub(crate) fn progress(fields: &[Said<'_>]) -> Progress
     ensures { result ≡ progress_in held_form fields.now }
 {

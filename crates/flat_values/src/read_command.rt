@@ -1,4 +1,4 @@
-//! The command that rows say. An error is that memory was refused.
+//! This module reads a command from rows. An error is that memory was refused.
 ghost use Rattle.std.specs.Prelude.{◌≡◌, IfOk, OnErr};
 ghost use Rattle.flat_values.specs.Found.{channel_of, first, held_form};
 ghost use Rattle.flat_values.specs.FoundCommands.{bared, command_in, other_in, texted};
@@ -18,7 +18,7 @@ use esc_prompts::FinalTermSemanticPrompt as Prompt;
 use esc_values::Text;
 use std::alloc::{AllocError, Global};
 
-// The command of a kind.
+// Reads the command of a kind.
 pub(crate) fn command(alloc: Global, form: Form, fields: &[Said<'_>]) -> Result<Command, AllocError>
     ensures ok { IfOk result (λ c. c ≡ command_in held_form form fields.now) }
     ensures refused { OnErr result (Refused Global) }
@@ -35,7 +35,7 @@ pub(crate) fn command(alloc: Global, form: Form, fields: &[Said<'_>]) -> Result<
     }
 }
 
-// The command of a kind that has nothing.
+// Returns the command of a kind that has nothing.
 fn bare(kind: BareKind) -> Command
     ensures { result ≡ bared kind }
 {
@@ -55,7 +55,7 @@ fn bare(kind: BareKind) -> Command
     }
 }
 
-// The command of a kind that has one text.
+// Returns the command of a kind that has one text.
 fn texted(kind: TextKind, text: Text) -> Command
     ensures { result ≡ texted kind text }
 {
@@ -76,7 +76,7 @@ fn texted(kind: TextKind, text: Text) -> Command
     }
 }
 
-// The command of any other kind that is no prompt and none of iTerm2.
+// Reads the command of any other kind that is no prompt and none of iTerm2.
 fn other(alloc: Global, kind: OtherKind, fields: &[Said<'_>]) -> Result<Command, AllocError>
     ensures ok { IfOk result (λ c. c ≡ other_in held_form kind fields.now) }
     ensures refused { OnErr result (Refused Global) }
@@ -96,14 +96,14 @@ fn other(alloc: Global, kind: OtherKind, fields: &[Said<'_>]) -> Result<Command,
     }
 }
 
-// Which selections.
+// Reads the selections.
 fn selection(fields: &[Said<'_>]) -> Selection
     ensures { result ≡ record { 0 = channel_of held_form (first fields.now) } }
 {
     Selection::from_bits_retain(first(fields).channel())
 }
 
-// Which selections, and their text.
+// Reads the selections, and their text.
 fn selected(alloc: Global, fields: &[Said<'_>]) -> Result<Command, AllocError>
     ensures ok { IfOk result (λ c. c ≡ other_in held_form OtherKind.SetSelection fields.now) }
     ensures refused { OnErr result (Refused Global) }
@@ -112,7 +112,7 @@ fn selected(alloc: Global, fields: &[Said<'_>]) -> Result<Command, AllocError>
     Ok(Command::SetSelection(selection(fields), text))
 }
 
-// A dynamic colour, and colours for it and those after it.
+// Reads a dynamic colour, and colours for it and those after it.
 fn dynamic_colors(alloc: Global, fields: &[Said<'_>]) -> Result<Command, AllocError>
     ensures ok { IfOk result (λ c. c ≡ other_in held_form OtherKind.DynamicColors fields.now) }
     ensures refused { OnErr result (Refused Global) }

@@ -1,4 +1,4 @@
-//! Files that rows say. An error is that memory was refused.
+//! This module reads files from rows. An error is that memory was refused.
 ghost use Rattle.std.specs.Prelude.{◌≡◌, IfOk, OnErr};
 ghost use Rattle.flat_values.specs.Found.{held_form};
 ghost use Rattle.flat_values.specs.FoundPrompts.{dimension_in, file_in, height_in, past_height, past_width, size_in, width_in};
@@ -11,7 +11,7 @@ use esc_iterm::{ITermDimension, ITermFileData};
 use esc_values::Items;
 use std::alloc::{AllocError, Global};
 
-// A file.
+// Reads a file.
 pub(crate) fn file(alloc: Global, fields: &[Said<'_>]) -> Result<ITermFileData, AllocError>
     ensures ok { IfOk result (λ f. f ≡ file_in held_form fields.now) }
     ensures refused { OnErr result (Refused Global) }
@@ -36,7 +36,7 @@ pub(crate) fn file(alloc: Global, fields: &[Said<'_>]) -> Result<ITermFileData, 
     })
 }
 
-// Its size, where it is given.
+// Reads its size, if it is given.
 fn size(fields: &[Said<'_>]) -> Option<usize>
     ensures { result ≡ size_in fields.now }
 {
@@ -46,7 +46,7 @@ fn size(fields: &[Said<'_>]) -> Option<usize>
     }
 }
 
-// A dimension of three units, each under a name of its own.
+// Reads a dimension of three units, each under a name of its own.
 fn dimension(
     cells: FieldName,
     pixels: FieldName,
@@ -69,7 +69,7 @@ fn dimension(
     }
 }
 
-// Its width.
+// Reads its width.
 fn width(fields: &[Said<'_>]) -> ITermDimension
     ensures { result ≡ width_in fields.now }
 {
@@ -81,7 +81,7 @@ fn width(fields: &[Said<'_>]) -> ITermDimension
     )
 }
 
-// What comes after its width.
+// Returns the rows after its width.
 fn past_width<'b, 'a>(fields: &'b [Said<'a>]) -> &'b [Said<'a>]
     ensures { result.now ≡ past_width fields.now }
 {
@@ -90,7 +90,7 @@ fn past_width<'b, 'a>(fields: &'b [Said<'a>]) -> &'b [Said<'a>]
     past(FieldName::WidthPercent, fields)
 }
 
-// Its height.
+// Reads its height.
 fn height(fields: &[Said<'_>]) -> ITermDimension
     ensures { result ≡ height_in fields.now }
 {
@@ -102,7 +102,7 @@ fn height(fields: &[Said<'_>]) -> ITermDimension
     )
 }
 
-// What comes after its height.
+// Returns the rows after its height.
 fn past_height<'b, 'a>(fields: &'b [Said<'a>]) -> &'b [Said<'a>]
     ensures { result.now ≡ past_height fields.now }
 {

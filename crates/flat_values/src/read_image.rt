@@ -1,4 +1,4 @@
-//! The kitty image that rows say. An error is that memory was refused.
+//! This module reads a kitty image from rows. An error is that memory was refused.
 ghost use Rattle.std.specs.Prelude.{◌≡◌, IfOk, OnErr};
 ghost use Rattle.flat_values.specs.Found.{after, first, held_form};
 ghost use Rattle.flat_values.specs.FoundImages.{compose_in, content_of, deleted_in, frame_in, image_in, look, placement_in, sent_in, transmit_in};
@@ -17,7 +17,7 @@ use esc_kitty::{
 use esc_values::Items;
 use std::alloc::{AllocError, Global};
 
-// The image of a form, or none.
+// Reads the image of a form, or none.
 pub(crate) fn image(
     alloc: Global,
     form: ImageForm,
@@ -49,7 +49,7 @@ pub(crate) fn image(
     }
 }
 
-// An image that has a text, by what is sent.
+// Reads an image that has a text, by its sending.
 fn sent(how: Sending, transmit: KittyImageTransmit, fields: &[Said<'_>]) -> KittyImage
     ensures { result ≡ sent_in held_form how transmit (look fields.now) }
 {
@@ -72,7 +72,7 @@ fn sent(how: Sending, transmit: KittyImageTransmit, fields: &[Said<'_>]) -> Kitt
     }
 }
 
-// An image on its way to the terminal, whose text is the first row.
+// Reads an image that is sent to the terminal, whose text is the first row.
 fn transmit(alloc: Global, fields: &[Said<'_>]) -> Result<KittyImageTransmit, AllocError>
     ensures ok { IfOk result (λ t.
         t ≡ transmit_in held_form (first fields.now) (look (after fields.now))) }
@@ -98,7 +98,7 @@ fn transmit(alloc: Global, fields: &[Said<'_>]) -> Result<KittyImageTransmit, Al
     })
 }
 
-// What an image is made of: which of five it is, and its text.
+// Returns the content of an image: one of five media, and its text.
 fn content(
     alloc: Global,
     medium: u64,
@@ -134,7 +134,7 @@ fn content(
     }
 }
 
-// How an image is shown.
+// Reads how an image is shown.
 fn placement(fields: &[Said<'_>]) -> KittyImagePlacement
     ensures { result ≡ placement_in held_form (look fields.now) }
 {
@@ -154,7 +154,7 @@ fn placement(fields: &[Said<'_>]) -> KittyImagePlacement
     }
 }
 
-// A frame that is sent.
+// Reads a frame that is sent.
 fn frame(fields: &[Said<'_>]) -> KittyImageFrame
     ensures { result ≡ frame_in held_form (look fields.now) }
 {
@@ -169,7 +169,7 @@ fn frame(fields: &[Said<'_>]) -> KittyImageFrame
     }
 }
 
-// Frames that are put over others.
+// Reads frames that are put over others.
 fn compose(fields: &[Said<'_>]) -> KittyImageFrameCompose
     ensures { result ≡ compose_in held_form (look fields.now) }
 {
@@ -188,7 +188,7 @@ fn compose(fields: &[Said<'_>]) -> KittyImageFrameCompose
     }
 }
 
-// What is deleted.
+// Reads a deletion.
 fn deleted(what: Deletion, fields: &[Said<'_>]) -> KittyImageDelete
     ensures { result ≡ deleted_in held_form what (look fields.now) }
 {

@@ -1,4 +1,4 @@
-//! Commands of iTerm2 that rows say. An error is that memory was refused.
+//! This module reads commands of iTerm2 from rows. An error is that memory was refused.
 ghost use Rattle.std.specs.Prelude.{◌≡◌, IfOk, OnErr};
 ghost use Rattle.flat_values.specs.Found.{first, held_form, second, string_of};
 ghost use Rattle.flat_values.specs.FoundPrompts.{cell_size_in, iterm_in, scale_in};
@@ -14,7 +14,7 @@ use esc_iterm::{ITermProprietary, ITermUnicodeVersionOp};
 use esc_values::Boxed;
 use std::alloc::{AllocError, Global};
 
-// The command of any other kind of iTerm2.
+// Reads the command of any other kind of iTerm2.
 pub(crate) fn iterm(
     alloc: Global,
     kind: ITermKind,
@@ -45,7 +45,7 @@ pub(crate) fn iterm(
     }
 }
 
-// The size of a cell.
+// Reads the size of a cell.
 fn cell_size(fields: &[Said<'_>]) -> ITermProprietary
     ensures { result ≡ cell_size_in held_form fields.now }
 {
@@ -56,7 +56,7 @@ fn cell_size(fields: &[Said<'_>]) -> ITermProprietary
     }
 }
 
-// A variable.
+// Reads a variable.
 fn variable(alloc: Global, fields: &[Said<'_>]) -> Result<ITermProprietary, AllocError>
     ensures ok { IfOk result (λ c. c
         ≡ iterm.SetUserVar (string_of held_form (first fields.now))
@@ -68,7 +68,7 @@ fn variable(alloc: Global, fields: &[Said<'_>]) -> Result<ITermProprietary, Allo
     Ok(ITermProprietary::SetUserVar { name, value })
 }
 
-// The scale of a cell's size, where it was reported.
+// Reads the scale of a cell's size, if it was reported.
 fn scale(fields: &[Said<'_>]) -> Option<u32>
     ensures { result ≡ scale_in held_form fields.now }
 {

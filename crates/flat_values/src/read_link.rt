@@ -1,4 +1,4 @@
-//! Links that rows say. An error is that memory was refused.
+//! This module reads links from rows. An error is that memory was refused.
 ghost use Rattle.std.specs.Prelude.{◌≡◌, [], IfOk, OnErr, OnOk};
 ghost use Rattle.esc_links.specs.Hyperlinks.{pairs_with, put_all};
 ghost use Rattle.flat_values.specs.Found.{held_form, parameters, string_of};
@@ -9,7 +9,7 @@ use crate::said::Said;
 use esc_links::{Hyperlink, Params};
 use std::alloc::{AllocError, Global};
 
-// A link, or none.
+// Reads a link, or none.
 pub(crate) fn link(alloc: Global, fields: &[Said<'_>]) -> Result<Option<Hyperlink>, AllocError>
     ensures ok { IfOk result (λ h. h ≡ link_in held_form fields.now) }
     ensures refused { OnErr result (Refused Global) }
@@ -26,7 +26,7 @@ pub(crate) fn link(alloc: Global, fields: &[Said<'_>]) -> Result<Option<Hyperlin
     }))
 }
 
-// The keys of a link with their values.
+// Reads the keys of a link with their values.
 fn params(alloc: Global, fields: &[Said<'_>]) -> Result<Params, AllocError>
     ensures ok { IfOk result (λ p. p ≡ put_all [] (parameters held_form fields.now)) }
     ensures refused { OnErr result (Refused Global) }

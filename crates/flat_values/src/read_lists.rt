@@ -1,4 +1,4 @@
-//! Lists that rows say, an item a row. An error is that memory was refused.
+//! This module reads lists from rows, an item a row. An error is that memory was refused.
 ghost use Rattle.std.specs.Prelude.{◌≡◌, IfOk, OnErr, map};
 ghost use Rattle.flat_values.specs.Fields.{text_of};
 ghost use Rattle.flat_values.specs.Found.{byte_of, held_form, string_of};
@@ -8,19 +8,19 @@ use crate::said::Said;
 use esc_values::{Items, Text};
 use std::alloc::{AllocError, Global};
 
-// An item that a row says.
+// A row says an item.
 pub(crate) trait Read {
     ghost use Rattle.flat_values.specs.Fields.{Value};
 
     ghost read: { Value → Self };
 
-    // That of this row.
+    // Reads the item of this row.
     fn of(alloc: Global, field: &Said<'_>) -> Result<Self, AllocError>
         ensures ok { IfOk result (λ v. v ≡ read field.now.1) }
         ensures refused { OnErr result (Refused Global) };
 }
 
-// A part of any bytes.
+// A part of any bytes is an item.
 impl Read for Items<u8> {
     ghost read = { text_of };
 
@@ -29,7 +29,7 @@ impl Read for Items<u8> {
     }
 }
 
-// A text.
+// A text is an item.
 impl Read for Text {
     ghost read = { string_of held_form };
 
@@ -38,7 +38,7 @@ impl Read for Text {
     }
 }
 
-// A place of the palette.
+// A place of the palette is an item.
 impl Read for u8 {
     ghost read = { byte_of held_form };
 
@@ -47,7 +47,7 @@ impl Read for u8 {
     }
 }
 
-// The items that these rows say.
+// Reads the items of these rows.
 pub(crate) fn items<T: Read + Drop>(
     alloc: Global,
     fields: &[Said<'_>],

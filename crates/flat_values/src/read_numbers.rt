@@ -1,4 +1,4 @@
-//! Numbers by name, and what kitty's protocol has words for, that rows say.
+//! This module reads numbers by name, and the words of kitty's protocol, from rows.
 ghost use Rattle.std.specs.Prelude.{◌≡◌};
 ghost use Rattle.flat_values.specs.Found.{held_form, magnitude};
 ghost use Rattle.flat_values.specs.FoundImages.{composition_of, compression_of, count, flag, format_in, format_of, known, known_order, look, natural, order, verbosity_in};
@@ -10,7 +10,7 @@ use esc_kitty::{
     KittyFrameCompositionMode, KittyImageCompression, KittyImageFormat, KittyImageVerbosity,
 };
 
-// The number of the first row of a name, where there is one.
+// Returns the number of the first row of a name, if there is one.
 fn look(name: FieldName, fields: &[Said<'_>]) -> Option<i64>
     ensures { result ≡ look fields.now name }
 {
@@ -22,7 +22,7 @@ fn look(name: FieldName, fields: &[Said<'_>]) -> Option<i64>
     None
 }
 
-// That number from 0 up; 0 where there is none, or it is negative.
+// Returns that number from 0 up; 0 if there is none, or it is negative.
 pub(crate) fn natural(name: FieldName, fields: &[Said<'_>]) -> u64
     ensures { result ≡ natural (look fields.now name) }
 {
@@ -32,14 +32,14 @@ pub(crate) fn natural(name: FieldName, fields: &[Said<'_>]) -> u64
     }
 }
 
-// Whether it is 1.
+// Returns whether it is 1.
 pub(crate) fn flag(name: FieldName, fields: &[Said<'_>]) -> bool
     ensures { result ≡ flag (look fields.now name) }
 {
     natural(name, fields) == 1
 }
 
-// The same, where there is one; 0 where it is over 32 bits.
+// Returns the same, if there is one; 0 if it is over 32 bits.
 pub(crate) fn count(name: FieldName, fields: &[Said<'_>]) -> Option<u32>
     ensures { result ≡ count held_form (look fields.now name) }
 {
@@ -49,7 +49,7 @@ pub(crate) fn count(name: FieldName, fields: &[Said<'_>]) -> Option<u32>
     }
 }
 
-// The same, and 0 where there is none.
+// Returns the same, and 0 if there is none.
 pub(crate) fn known(name: FieldName, fields: &[Said<'_>]) -> u32
     ensures { result ≡ known held_form (look fields.now name) }
 {
@@ -59,7 +59,7 @@ pub(crate) fn known(name: FieldName, fields: &[Said<'_>]) -> u32
     }
 }
 
-// The number, where there is one; 0 where it has more than 32 bits.
+// Returns the number, if there is one; 0 if it has more than 32 bits.
 pub(crate) fn order(name: FieldName, fields: &[Said<'_>]) -> Option<i32>
     ensures { result ≡ order held_form (look fields.now name) }
 {
@@ -69,7 +69,7 @@ pub(crate) fn order(name: FieldName, fields: &[Said<'_>]) -> Option<i32>
     }
 }
 
-// The same, and 0 where there is none.
+// Returns the same, and 0 if there is none.
 pub(crate) fn known_order(name: FieldName, fields: &[Said<'_>]) -> i32
     ensures { result ≡ known_order held_form (look fields.now name) }
 {
@@ -79,7 +79,7 @@ pub(crate) fn known_order(name: FieldName, fields: &[Said<'_>]) -> i32
     }
 }
 
-// What is reported.
+// Reads what the terminal reports.
 pub(crate) fn verbosity(fields: &[Said<'_>]) -> KittyImageVerbosity
     ensures { result ≡ verbosity_in (look fields.now) }
 {
@@ -90,7 +90,7 @@ pub(crate) fn verbosity(fields: &[Said<'_>]) -> KittyImageVerbosity
     }
 }
 
-// The format of pixels, where it is given.
+// Reads the format of pixels, if it is given.
 pub(crate) fn format(fields: &[Said<'_>]) -> Option<KittyImageFormat>
     ensures { result ≡ format_in (look fields.now name.Format) }
 {
@@ -100,7 +100,7 @@ pub(crate) fn format(fields: &[Said<'_>]) -> Option<KittyImageFormat>
     }
 }
 
-// The format of this number.
+// Returns the format of this number.
 fn format_of(number: i64) -> KittyImageFormat
     ensures { result ≡ format_of (magnitude number) }
 {
@@ -111,7 +111,7 @@ fn format_of(number: i64) -> KittyImageFormat
     }
 }
 
-// How pixels are compressed.
+// Reads the compression of pixels.
 pub(crate) fn compression(fields: &[Said<'_>]) -> KittyImageCompression
     ensures { result ≡ compression_of (natural (look fields.now name.Compression)) }
 {
@@ -121,7 +121,7 @@ pub(crate) fn compression(fields: &[Said<'_>]) -> KittyImageCompression
     }
 }
 
-// How pixels are put over others.
+// Reads the composition mode.
 pub(crate) fn composition(fields: &[Said<'_>]) -> KittyFrameCompositionMode
     ensures { result ≡ composition_of (natural (look fields.now name.CompositionMode)) }
 {

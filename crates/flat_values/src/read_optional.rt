@@ -1,4 +1,4 @@
-//! What rows say where it may be absent. An error is that memory was refused.
+//! This module reads rows that may be absent. An error is that memory was refused.
 ghost use Rattle.std.specs.Prelude.{◌≡◌, IfOk, OnErr};
 ghost use Rattle.std.specs.Option.{option_map};
 ghost use Rattle.flat_values.specs.Found.{held_form, named_value, past};
@@ -10,7 +10,7 @@ use crate::said::Said;
 use esc_values::Text;
 use std::alloc::{AllocError, Global};
 
-// The first, where it has this name.
+// Returns the first row, if it has this name.
 pub(crate) fn named<'b, 'a>(name: FieldName, fields: &'b [Said<'a>]) -> Option<&'b Said<'a>>
     ensures { option_map (λ s. s.now.1) result ≡ named_value name fields.now }
 {
@@ -20,7 +20,7 @@ pub(crate) fn named<'b, 'a>(name: FieldName, fields: &'b [Said<'a>]) -> Option<&
     }
 }
 
-// Those after the first, where it has this name; else all.
+// Returns the rows after the first, if it has this name; else all.
 pub(crate) fn past<'b, 'a>(name: FieldName, fields: &'b [Said<'a>]) -> &'b [Said<'a>]
     ensures { result.now ≡ past name fields.now }
 {
@@ -30,7 +30,7 @@ pub(crate) fn past<'b, 'a>(name: FieldName, fields: &'b [Said<'a>]) -> &'b [Said
     }
 }
 
-// The text of the first, where it has this name.
+// Reads the text of the first row, if it has this name.
 pub(crate) fn text(
     alloc: Global,
     name: FieldName,

@@ -1,4 +1,4 @@
-//! Prompts that rows say. An error is that memory was refused.
+//! This module reads prompts from rows. An error is that memory was refused.
 ghost use Rattle.std.specs.Prelude.{◌≡◌, IfOk, OnErr};
 ghost use Rattle.flat_values.specs.Found.{held_form};
 ghost use Rattle.flat_values.specs.FoundPrompts.{click_in, click_of, keys_in, prompt_in, prompt_kind_of, prompted};
@@ -12,7 +12,7 @@ use esc_prompts::{FinalTermClick, FinalTermPromptKind, FinalTermSemanticPrompt a
 use esc_values::Text;
 use std::alloc::{AllocError, Global};
 
-// The prompt of a kind.
+// Reads the prompt of a kind.
 pub(crate) fn prompt(
     alloc: Global,
     kind: PromptForm,
@@ -25,7 +25,7 @@ pub(crate) fn prompt(
     Ok(prompted(kind, aid, fields))
 }
 
-// Where its keys begin.
+// Returns the rows of its keys.
 fn keys<'b, 'a>(kind: PromptForm, fields: &'b [Said<'a>]) -> &'b [Said<'a>]
     ensures { result.now ≡ keys_in kind fields.now }
 {
@@ -35,7 +35,7 @@ fn keys<'b, 'a>(kind: PromptForm, fields: &'b [Said<'a>]) -> &'b [Said<'a>]
     }
 }
 
-// The prompt of a kind, with the name of the application where it has one.
+// Reads the prompt of a kind, with the name of the application if it has one.
 fn prompted(kind: PromptForm, aid: Option<Text>, fields: &[Said<'_>]) -> Prompt
     ensures { result ≡ prompted held_form kind aid fields.now }
 {
@@ -57,7 +57,7 @@ fn prompted(kind: PromptForm, aid: Option<Text>, fields: &[Said<'_>]) -> Prompt
     }
 }
 
-// What a click does, where it is given.
+// Reads the effect of a click, if it is given.
 fn click(fields: &[Said<'_>]) -> Option<FinalTermClick>
     ensures { result ≡ click_in fields.now }
 {
@@ -67,7 +67,7 @@ fn click(fields: &[Said<'_>]) -> Option<FinalTermClick>
     }
 }
 
-// The click of this number.
+// Returns the click of this number.
 fn click_of(number: u64) -> FinalTermClick
     ensures { result ≡ click_of number }
 {
@@ -79,7 +79,7 @@ fn click_of(number: u64) -> FinalTermClick
     }
 }
 
-// The kind of prompt of this number.
+// Returns the kind of prompt of this number.
 fn prompt_kind(number: u64) -> FinalTermPromptKind
     ensures { result ≡ prompt_kind_of number }
 {

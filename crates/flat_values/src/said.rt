@@ -1,4 +1,4 @@
-//! What rows say, each a name and a value.
+//! This module defines the names and values that rows say.
 ghost use Rattle.std.specs.Prelude.{◌≡◌, ◌^◌, IfOk, OnErr, drop, take};
 ghost use Rattle.flat_values.specs.Fields.{row_said, table_values, text_of};
 ghost use Rattle.flat_values.specs.Found.{after, below, byte_of, channel_of, count_of, first, flag_of, held_form, is_named, length_of, magnitude, number_of, signed, size_of, string_of};
@@ -11,7 +11,7 @@ use esc_values::scalar::text_in;
 use std::alloc::{AllocError, Global};
 use std::marker::Model;
 
-// What a row says: the number of a name; a number, a text or a size. Contracts see the name and the
+// A row says the number of a name; and a number, a text or a size. Contracts see the name and the
 // value.
 #[derive(Drop)]
 pub(crate) struct Said<'a> {
@@ -32,7 +32,7 @@ impl<'a> Model for Said<'a> {
 }
 
 impl<'a> Said<'a> {
-    // What a row says, over the texts of all fields.
+    // Returns what a row says, over the texts of all fields.
     fn of(row: &FieldRow, text: &'a [u8]) -> Said<'a>
         ensures { result ≡ row_said text.now row.now }
     {
@@ -45,21 +45,21 @@ impl<'a> Said<'a> {
         }
     }
 
-    // Whether it has this name.
+    // Returns whether it has this name.
     pub(crate) fn is(&self, name: FieldName) -> bool
         ensures { result ≡ is_named name self.now }
     {
         self.name == name.number()
     }
 
-    // Its number; 0 where it is none.
+    // Returns its number; 0 if it is none.
     pub(crate) fn number(&self) -> i64
         ensures { result ≡ number_of self.now.1 }
     {
         if self.kind == NUMBER { self.number } else { 0 }
     }
 
-    // Its number; 0 where it is none, or is negative.
+    // Returns its number; 0 if it is none, or is negative.
     pub(crate) fn count(&self) -> u64
         ensures { result ≡ count_of self.now.1 }
     {
@@ -67,7 +67,7 @@ impl<'a> Said<'a> {
         if number < 0 { 0 } else { number as u64 }
     }
 
-    // The same; 0 where it is over 8 bits.
+    // Returns the same; 0 if it is over 8 bits.
     pub(crate) fn byte(&self) -> u8
         ensures { result ≡ byte_of held_form self.now.1 }
     {
@@ -75,7 +75,7 @@ impl<'a> Said<'a> {
         if count < 256 { count as u8 } else { 0 }
     }
 
-    // The same; 0 where it is over 16 bits.
+    // Returns the same; 0 if it is over 16 bits.
     pub(crate) fn channel(&self) -> u16
         ensures { result ≡ channel_of held_form self.now.1 }
     {
@@ -83,21 +83,21 @@ impl<'a> Said<'a> {
         if count < 65536 { count as u16 } else { 0 }
     }
 
-    // The same; 0 where it is over 32 bits.
+    // Returns the same; 0 if it is over 32 bits.
     pub(crate) fn length(&self) -> u32
         ensures { result ≡ length_of held_form self.now.1 }
     {
         length_of(self.number())
     }
 
-    // Whether its number is over 0.
+    // Returns whether its number is over 0.
     pub(crate) fn flag(&self) -> bool
         ensures { result ≡ flag_of self.now.1 }
     {
         self.count() != 0
     }
 
-    // Its size; 0 where it is none.
+    // Returns its size; 0 if it is none.
     pub(crate) fn size(&self) -> usize
         ensures { result ≡ size_of self.now.1 }
     {
@@ -108,7 +108,7 @@ impl<'a> Said<'a> {
         }
     }
 
-    // The bytes of its text; none where it is none.
+    // Returns the bytes of its text; no bytes if it is none.
     pub(crate) fn bytes(&self) -> &'a [u8]
         ensures { result.now ≡ text_of self.now.1 }
     {
@@ -119,7 +119,7 @@ impl<'a> Said<'a> {
         }
     }
 
-    // Its text; the empty one where it is none, or is not UTF-8. The error is that memory was
+    // Returns its text; the empty one if it is none, or is not UTF-8. The error is that memory was
     // refused.
     pub(crate) fn string(&self, alloc: Global) -> Result<Text, AllocError>
         ensures ok { IfOk result (λ t. t ≡ string_of held_form self.now.1) }
@@ -132,7 +132,7 @@ impl<'a> Said<'a> {
     }
 }
 
-// The number; 0 where it is negative, or over 32 bits.
+// Returns the number; 0 if it is negative, or over 32 bits.
 pub(crate) fn length_of(number: i64) -> u32
     ensures { result ≡ below (2 ^ 32) (magnitude number) }
 {
@@ -143,7 +143,7 @@ pub(crate) fn length_of(number: i64) -> u32
     }
 }
 
-// The number, where it has 32 bits; else 0.
+// Returns the number, if it has 32 bits; else 0.
 pub(crate) fn signed(number: i64) -> i32
     ensures { result ≡ signed number }
 {
@@ -154,7 +154,7 @@ pub(crate) fn signed(number: i64) -> i32
     }
 }
 
-// The part of a text from this place on, so many bytes of it, as far as they are there.
+// Returns the part of a text from this place on, of this length, as far as the text goes.
 fn part(text: &[u8], offset: usize, length: usize) -> &[u8]
     ensures { result.now ≡ take length (drop offset text.now) }
 {
@@ -162,7 +162,7 @@ fn part(text: &[u8], offset: usize, length: usize) -> &[u8]
     &rest[..length.min(rest.len())]
 }
 
-// What these rows say.
+// Returns what these rows say.
 pub(crate) fn said_by<'a>(
     alloc: Global,
     rows: &[FieldRow],
@@ -181,7 +181,7 @@ pub(crate) fn said_by<'a>(
     Ok(all)
 }
 
-// The first; a size of 0 where there is none.
+// Returns the first; a size of 0 if there is none.
 pub(crate) fn first<'a>(fields: &[Said<'a>]) -> Said<'a>
     ensures { result.1 ≡ first fields.now }
 {
@@ -203,7 +203,7 @@ pub(crate) fn first<'a>(fields: &[Said<'a>]) -> Said<'a>
     }
 }
 
-// Those after the first.
+// Returns those after the first.
 pub(crate) fn after<'b, 'a>(fields: &'b [Said<'a>]) -> &'b [Said<'a>]
     ensures { result.now ≡ after fields.now }
 {

@@ -1,4 +1,4 @@
-//! Sixel data as rows of numbers, for callers without enums.
+//! This module defines sixel data as rows of numbers, for callers without enums.
 ghost use Rattle.std.specs.Prelude.{◌≡◌, ◌↔◌, IfSome, IsTrue, None};
 ghost use Rattle.flat_values.specs.FoundSixels.{item_in};
 ghost use Rattle.flat_values.specs.Sixels.{colored, drawn, sixel_row};
@@ -13,13 +13,13 @@ pub const PIXELS: u32 = 0;
 /// The kind of six pixels with a count before them.
 pub const REPEAT: u32 = 1;
 
-/// The kind of what gives a colour to a number, as red, green and blue.
+/// The kind that gives a colour to a number, as red, green and blue.
 pub const DEFINE_RGB: u32 = 2;
 
-/// The kind of what gives a colour to a number, as hue, lightness and saturation.
+/// The kind that gives a colour to a number, as hue, lightness and saturation.
 pub const DEFINE_HSL: u32 = 3;
 
-/// The kind of what selects the colour of a number.
+/// The kind that selects the colour of a number.
 pub const SELECT: u32 = 4;
 
 /// The kind of a carriage return.
@@ -28,13 +28,13 @@ pub const CARRIAGE_RETURN: u32 = 5;
 /// The kind of a new line.
 pub const NEW_LINE: u32 = 6;
 
-/// A piece of sixel data. What has no meaning for its kind is 0.
+/// A row is an item of sixel data. A part that has no meaning for its kind is 0.
 #[repr(C)]
 #[derive(Clone, Copy, PartialEq, Eq)]
 pub struct SixelRow {
-    /// What it is: [`PIXELS`], [`REPEAT`] and so on.
+    /// The kind of the item: [`PIXELS`], [`REPEAT`] and so on.
     pub kind: u32,
-    /// How many times its pixels come: with [`PIXELS`] 1.
+    /// The number of times that its pixels come: with [`PIXELS`] 1.
     pub count: u32,
     /// The number of a colour.
     pub color: u16,
@@ -43,11 +43,11 @@ pub struct SixelRow {
     /// Six pixels, one above the other, as the bits of a number from 0 to 63. The lowest bit is the
     /// top pixel.
     pub pixels: u8,
-    /// How much red, from 0 to 255.
+    /// The red, from 0 to 255.
     pub red: u8,
-    /// How much green.
+    /// The green, from 0 to 255.
     pub green: u8,
-    /// How much blue.
+    /// The blue, from 0 to 255.
     pub blue: u8,
     /// The lightness, from 0 to 100. It may be larger.
     pub lightness: u8,
@@ -56,7 +56,7 @@ pub struct SixelRow {
 }
 
 impl SixelRow {
-    /// The row of a piece of data.
+    /// Returns the row of an item.
     pub fn of(item: &SixelData) -> SixelRow
         ensures { result ≡ sixel_row item.now }
     {
@@ -92,7 +92,7 @@ impl SixelRow {
         }
     }
 
-    /// The piece of data that has this row; none where no piece has it.
+    /// Returns the item that has this row; none if no item has it.
     pub fn item(&self) -> Option<SixelData>
         ensures has { IfSome result (λ d. sixel_row d ≡ self.now) }
         ensures none { result ≡ None → (d : Piece) → sixel_row d ≡ self.now → ⊥ }
@@ -106,7 +106,7 @@ impl SixelRow {
         }
     }
 
-    // What it says by its kind; a new line where there is no such kind.
+    // Returns the item of its kind; a new line if there is no such kind.
     fn said(&self) -> SixelData
         ensures { result ≡ item_in self.now }
     {
@@ -133,14 +133,14 @@ impl SixelRow {
     }
 }
 
-// Whether two rows are the same.
+// Returns whether two rows are the same.
 fn are_same(row: &SixelRow, other: &SixelRow) -> bool
     ensures { IsTrue result ↔ (row.now ≡ other.now) }
 {
     row == other
 }
 
-// A row of this kind, with pixels so many times.
+// Returns a row of this kind, with pixels that come `count` times.
 fn drawn(kind: u32, pixels: u8, count: u32) -> SixelRow
     ensures { result ≡ drawn kind pixels count }
 {
@@ -158,7 +158,7 @@ fn drawn(kind: u32, pixels: u8, count: u32) -> SixelRow
     }
 }
 
-// A row of this kind, with the number of a colour.
+// Returns a row of this kind, with the number of a colour.
 fn colored(kind: u32, color: u16) -> SixelRow
     ensures { result ≡ colored kind color }
 {

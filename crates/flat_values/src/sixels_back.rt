@@ -1,4 +1,4 @@
-//! The sixel data of rows.
+//! This module reads sixel data from rows.
 ghost use Rattle.std.specs.Prelude.{◌≡◌, IfOk, IfSome, List, None, OnErr, map};
 ghost use Rattle.flat_values.specs.Sixels.{sixel_row};
 ghost use Rattle.esc_sixel.specs.declared.sixel_data.SixelData.{SixelData};
@@ -9,8 +9,8 @@ use esc_sixel::SixelData as Piece;
 use esc_values::Items;
 use std::alloc::{AllocError, Global};
 
-/// The pieces of sixel data that have these rows, as [`SixelRow::of`] has them. None where a row is
-/// that of no piece. The error is that memory was refused.
+/// Returns the sixel items that have these rows, as [`SixelRow::of`] has them. None if a row is
+/// that of no item. The error is that memory was refused.
 pub fn sixel_items_of(alloc: Global, rows: &[SixelRow]) -> Result<Option<Items<Piece>>, AllocError>
     ensures has { IfOk result (λ o. IfSome o (λ ds. map sixel_row ds ≡ rows.now)) }
     ensures none { IfOk result (λ o. o ≡ None → (ds : List SixelData)

@@ -1,4 +1,4 @@
--- What is noted of the bytes that come first, where that needs no machine.
+-- Events of the bytes that come first, noted without a machine.
 use Rattle.std.specs.Prelude.{ℕ, ◌≡◌, ◌≢◌, ◌≤◌, ◌<◌, Bool, true, false, List, [], length, take, Some}
 use Rattle.std.specs.Str.{IsUtf8}
 use Rattle.esc_frame.specs.Changed.{Changed}
@@ -12,14 +12,14 @@ use Rattle.heapless_parser.specs.Emitted.{emitted, emitted_by, is_run, queued_of
 use Rattle.heapless_parser.specs.Runs.{Emits, EmitsEvent, IsTextRun}
 use Rattle.heapless_parser.specs.States.{KeptIn}
 
--- But for its parameters the event is as before.
+-- The event is as before but for its parameters.
 abbrev pub IsParamsChange : EscEvent → EscEvent → Type 0
 IsParamsChange new old = new ≡ record old { csi_params = new.csi_params }
 
--- The counts and the places of an event are within what they count, where so many of the bytes were
--- taken. A run lies at the first of them.
+-- The counts of an event and its places are within the arrays, the room and the `taken` bytes. A
+-- run begins at the first of them.
 pub record Fits (e : EscEvent) (room : ℕ) (bytes : List ℕ) (taken : ℕ) : Type 0 where
-  -- no more parameters and intermediates than the event has places for
+  -- the event has a place for each parameter and intermediate
   pub within : (e.count ≤ 256) × (e.kept ≤ 2)
   -- a text is within the room
   pub text : is_run e.kind ≡ false → e.length ≤ room
@@ -28,29 +28,29 @@ pub record Fits (e : EscEvent) (room : ℕ) (bytes : List ℕ) (taken : ℕ) : T
   -- a run of characters is UTF-8
   pub utf8 : e.kind ≡ TEXT → IsUtf8 (take e.length bytes)
 
--- So many of the bytes were taken, and are an event, whose text has so much room.
+-- The first `taken` bytes are an event, whose text has this much room.
 pub record NotesFirst (event : Changed EscEvent) (room : ℕ) (bytes : List ℕ) (taken : ℕ)
     : Type 0 where
-  -- no more than there are
+  -- no more bytes are taken than there are
   pub few : taken ≤ length bytes
-  -- where none are taken, nothing is noted
+  -- if none are taken, nothing is noted
   pub none : taken ≡ 0 → IsParamsChange event.exit.now event.entry.now
-  -- where some are, an event is noted
+  -- if some are, an event is noted
   pub some : 0 < taken → (event.exit.now.kind ≢ NONE) × (event.exit.now.kind < FAILED)
-  -- its counts and its places are within what they count
+  -- its counts and its places are within bounds
   pub fits : Fits event.exit.now room bytes taken
 
--- So many of the bytes were taken, and are a run of characters or of data, where the parser is.
+-- The first `taken` bytes are a run of characters or of data in the parser's state.
 pub record NotesRun (parser : EscParser) (event : Changed EscEvent) (bytes : List ℕ) (taken : ℕ)
     : Type 0 where
-  -- no more than there are
+  -- no more bytes are taken than there are
   pub few : taken ≤ length bytes
-  -- where none are taken, nothing is noted
+  -- if none are taken, nothing is noted
   pub none : taken ≡ 0 → event.exit.now ≡ event.entry.now
-  -- where some are, a run is noted
+  -- if some are, a run is noted
   pub some : 0 < taken → (event.exit.now.kind ≢ NONE) × (event.exit.now.kind < FAILED)
       × (is_run event.exit.now.kind ≡ true)
-  -- of just these bytes
+  -- the run is these bytes, and the other counts stay
   pub within : (event.exit.now.count ≡ event.entry.now.count)
       × (event.exit.now.kept ≡ event.entry.now.kept)
       × (event.exit.now.start ≡ event.entry.now.start)
@@ -65,11 +65,11 @@ pub record NotesRun (parser : EscParser) (event : Changed EscEvent) (bytes : Lis
       → emitted_by event.exit.now out (take event.exit.now.length bytes)
       ≡ events_all (Some (length memory)) u (take taken bytes)
 
--- So many of the bytes were taken, and are a control or a short control sequence in ground.
+-- The first `taken` bytes are a control or a short control sequence in ground.
 pub record NotesQuick (event : Changed EscEvent) (bytes : List ℕ) (taken : ℕ) : Type 0 where
-  -- no more than there are
+  -- no more bytes are taken than there are
   pub few : taken ≤ length bytes
-  -- where none are taken, nothing is noted
+  -- if none are taken, nothing is noted
   pub none : taken ≡ 0 → IsParamsChange event.exit.now event.entry.now
   -- the event has the text and the intermediates that it had
   pub within : (event.exit.now.kept ≡ event.entry.now.kept)
@@ -78,24 +78,24 @@ pub record NotesQuick (event : Changed EscEvent) (bytes : List ℕ) (taken : ℕ
   -- the event says what is emitted, and nothing is unfinished
   pub emits : 0 < taken → EmitsEvent event.exit.now (take taken bytes)
 
--- The same of a parser that is in ground, if any are taken.
+-- The same holds, and if any are taken, the parser is in ground.
 pub record NotesInGround (parser : EscParser) (event : Changed EscEvent) (bytes : List ℕ)
     (taken : ℕ) : Type 0 where
   pub notes : NotesQuick event bytes taken
-  -- where some are taken, an event is noted, and it is no run
+  -- if some are taken, an event is noted, and it is no run
   pub some : 0 < taken → (event.exit.now.kind ≢ NONE) × (event.exit.now.kind < FAILED)
       × (is_run event.exit.now.kind ≡ false)
-  -- no more parameters than the event has places for
+  -- the event has a place for each parameter
   pub count : event.exit.now.count ≤ 256
   pub ground : 0 < taken → (parser.state ≡ GROUND) × (parser.pending ≡ 0)
 
--- So many of the bytes were taken, and are a run of characters or a control in ground.
+-- The first `taken` bytes are a run of characters or a control in ground.
 pub record NotesPlain (event : Changed EscEvent) (bytes : List ℕ) (taken : ℕ) : Type 0 where
-  -- no more than there are
+  -- no more bytes are taken than there are
   pub few : taken ≤ length bytes
-  -- where none are taken, nothing is noted
+  -- if none are taken, nothing is noted
   pub none : taken ≡ 0 → event.exit.now ≡ event.entry.now
-  -- where some are, an event is noted, without parameters and intermediates
+  -- if some are, an event is noted, without parameters and intermediates
   pub some : 0 < taken → (event.exit.now.kind ≢ NONE) × (event.exit.now.kind < FAILED)
       × (event.exit.now.count ≡ 0) × (event.exit.now.kept ≡ 0) × (event.exit.now.start ≡ 0)
   -- a run is all of these bytes
@@ -108,7 +108,7 @@ pub record NotesPlain (event : Changed EscEvent) (bytes : List ℕ) (taken : ℕ
   pub emits : 0 < taken → (p : EscParser) (out : List ℕ) (limit : ℕ) → p.state ≡ GROUND
       → p.pending ≡ 0 → Emits p p event.exit.now out limit bytes (take taken bytes)
 
--- The character or the control that was still to be handed out was, or there was none.
+-- The queued character or control was handed out, or there was none.
 pub record GivesQueued (parser : Changed EscParser) (event : Changed EscEvent)
     (is_given : Bool) : Type 0 where
   -- the event says it
@@ -119,12 +119,12 @@ pub record GivesQueued (parser : Changed EscParser) (event : Changed EscEvent)
   -- the same is unfinished
   pub kept : (memory : List ℕ) (u : Unfinished) → KeptIn parser.entry.now memory u
       → KeptIn parser.exit.now memory u
-  -- the parser has failed where it had
+  -- the parser has failed if it had
   pub failed : parser.exit.now.has_failed ≡ parser.entry.now.has_failed
   -- what is handed out is an event, and no run
   pub some : is_given ≡ true → (event.exit.now.kind ≢ NONE) × (event.exit.now.kind < FAILED)
       × (is_run event.exit.now.kind ≡ false)
-  -- which has the counts and the text that the event had
+  -- the event has the counts and the text that it had
   pub within : (event.exit.now.count ≡ event.entry.now.count)
       × (event.exit.now.kept ≡ event.entry.now.kept)
       × (event.exit.now.length ≡ event.entry.now.length)

@@ -1,4 +1,4 @@
--- What a call is given that takes bytes, or one byte, and may note an event of them.
+-- The arguments of a call that takes bytes, or one byte, and may note an event.
 use Rattle.std.specs.Prelude.{ℕ, ◌≡◌, ◌≢◌, ◌<◌, true, false, List, length}
 use Rattle.esc_frame.specs.Classes.{class_of, ends_escape, is_breaker, opens}
 use Rattle.esc_frame.specs.Segments.{is_empty}
@@ -19,12 +19,12 @@ pub record Asked (event : EscEvent) (bytes : List ℕ) : Type 0 where
   pub some : 0 < length bytes
   pub none : event.kind ≡ NONE
 
--- No event was noted yet, and what is left of an earlier one is within these bounds.
+-- No event was noted yet, and the fields that an earlier one left are within these bounds.
 pub record IsFresh (event : EscEvent) (bounds : Type 0) : Type 0 where
   pub none : event.kind ≡ NONE
   pub within : bounds
 
--- The same, and bytes are there.
+-- The same holds, and bytes are there.
 pub record AskedWithin (event : EscEvent) (bytes : List ℕ) (bounds : Type 0) : Type 0 where
   pub some : 0 < length bytes
   pub fresh : IsFresh event bounds
@@ -36,14 +36,14 @@ pub record FedIn (number : ℕ) (parser : EscParser) (bytes : List ℕ) : Type 0
   pub some : 0 < length bytes
   pub state : parser.state ≡ number
 
--- The parser is in this state, no event was noted yet, and what is left of an earlier one is within
--- these bounds.
+-- The parser is in this state, no event was noted yet, and the fields that an earlier one left are
+-- within these bounds.
 pub record AskedIn (number : ℕ) (parser : EscParser) (event : EscEvent) (bounds : Type 0)
     : Type 0 where
   pub state : parser.state ≡ number
   pub fresh : IsFresh event bounds
 
--- The same, and bytes are there.
+-- The same holds, and bytes are there.
 pub record GoesOn (number : ℕ) (parser : EscParser) (event : EscEvent) (bytes : List ℕ)
     (bounds : Type 0) : Type 0 where
   pub some : 0 < length bytes
@@ -51,14 +51,14 @@ pub record GoesOn (number : ℕ) (parser : EscParser) (event : EscEvent) (bytes 
 
 -- ---- and of a byte
 
--- The parser is asked in this state of the final byte of a sequence or of a header.
+-- The parser is in this state, and gets the final byte of a sequence or of a header.
 pub record EndsIn (number : ℕ) (parser : EscParser) (event : EscEvent) (byte : ℕ)
     (bounds : Type 0) : Type 0 where
   pub asked : AskedIn number parser event bounds
   pub ends : is_from 0x40 0x7e byte ≡ true
 
--- The byte breaks off what is unfinished, no event was noted yet, and what is left of an earlier
--- one is within these bounds.
+-- The byte breaks off the unfinished segment, no event was noted yet, and the fields that an
+-- earlier one left are within these bounds.
 pub record AskedToLeave (byte : ℕ) (event : EscEvent) (bounds : Type 0) : Type 0 where
   pub breaks : is_breaker (class_of byte) ≡ true
   pub fresh : IsFresh event bounds

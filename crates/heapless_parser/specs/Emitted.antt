@@ -1,4 +1,4 @@
--- What an event that is handed out says, in events of the stream.
+-- The events of the stream that an event of a call stands for.
 use Rattle.std.specs.Prelude.{ℕ, ℤ, Bool, true, false, ◌≡◌, ◌≤◌, ◌+◌, ◌==◌, ◌||◌, if◌then◌else◌, List, [], ◌∷◌, ◌++◌, map, take, drop, pos}
 use Rattle.std.specs.Str.{chars}
 use Rattle.esc_values.specs.Clear.{parts_of}
@@ -13,11 +13,11 @@ use Rattle.heapless_parser.specs.declared.event.EscEvent.{EscEvent}
 abbrev pub param_of : EscEntry → CsiParam
 param_of e = if e.is_byte then P e.byte else Integer e.number
 
--- the bytes of a place in the bytes of the call
+-- the bytes at the event's place in the bytes of the call
 abbrev pub placed_bytes : EscEvent → List ℕ → List ℕ
 placed_bytes e bytes = take e.length (drop e.start bytes)
 
--- the text that lies at the beginning of the upper half of the buffer
+-- the event's text, at the beginning of the upper half of the buffer
 abbrev pub text_of : EscEvent → List ℕ → List ℕ
 text_of e out = take e.length out
 
@@ -35,7 +35,7 @@ is_run kind = (kind == 1) || (kind == 8)
 abbrev pub run_of : ℕ → List ℕ → List Event
 run_of kind x = if kind == 1 then map Print (chars x) else map DcsPut x
 
--- what an event that is no run says, where this is the upper half of the buffer
+-- the events of an event that is no run, where `out` is the upper half of the buffer
 abbrev pub sent_events : EscEvent → List ℕ → List Event
 sent_events e out =
     if e.kind == 2 then Print e.byte ∷ []
@@ -55,21 +55,22 @@ sent_events e out =
 abbrev pub emitted_by : EscEvent → List ℕ → List ℕ → List Event
 emitted_by e out run = if is_run e.kind then run_of e.kind run else sent_events e out
 
--- What an event says, where these are the upper half of the buffer and the bytes of the call.
+-- The events of an event, where `out` is the upper half of the buffer and `bytes` those of the
+-- call.
 abbrev pub emitted : EscEvent → List ℕ → List ℕ → List Event
 emitted e out bytes = emitted_by e out (placed_bytes e bytes)
 
--- a character or a control that is still to be handed out
+-- the queued character or control
 abbrev pub queued_of : ℕ → ℕ → List Event
 queued_of kind value = if kind == 2 then Print value ∷ [] else if kind == 3 then Execute value
     ∷ [] else []
 
--- an event that is no run, and what is to be handed out after it
+-- the events of an event that is no run, and the queued one
 abbrev pub said_events : EscEvent → List ℕ → ℕ → ℕ → List Event
 said_events e out kind value = sent_events e out ++ queued_of kind value
 
--- The counts and places of an event: of parameters and intermediates no more than the arrays hold,
--- a text within the room that it was copied to, and a run within the bytes that were taken.
+-- The counts and places of an event are within bounds: the arrays hold its parameters and
+-- intermediates, the room holds its text, and a run lies within the bytes taken.
 abbrev pub IsWithin : EscEvent → ℕ → ℕ → Type 0
 IsWithin e room taken =
     (e.count ≤ 256) × (e.kept ≤ 2) × (is_run e.kind ≡ false → e.length ≤ room)

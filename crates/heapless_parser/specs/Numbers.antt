@@ -1,4 +1,4 @@
--- What the numbers of a parser mean.
+-- The meaning of a parser's numbers.
 use Rattle.std.specs.Prelude.{ℕ, ◌==◌, if◌then◌else◌, List, [], ◌∷◌}
 use Rattle.esc_frame.specs.declared.unfinished.body.Form.{Form}
 use Rattle.esc_frame.specs.declared.unfinished.body.Form.TheVariants as form
@@ -17,7 +17,7 @@ abbrev pub form_numbered : ℕ → Form
 form_numbered n = if n == 1 then form.Parameters else if n == 2 then form.Intermediates else if
     n == 3 then form.Malformed else form.Empty
 
--- the bytes of a character that have come, of which there are so many
+-- the bytes of a character that have come, by their number
 abbrev pub begun_bytes : ℕ → ℕ → ℕ → ℕ → List ℕ
 begun_bytes count a b c = if count == 1 then a ∷ [] else if count == 2 then a ∷ b
     ∷ [] else if count == 3 then a ∷ b ∷ c ∷ [] else []

@@ -1,4 +1,4 @@
--- What is written to an event: a text or a sequence.
+-- The writes of a text or a sequence to an event.
 use Rattle.std.specs.Prelude.{ℕ, ◌≡◌, ◌≤◌, ◌<◌, ◌+◌, ◌++◌, ◌∷◌, [], Bool, true, false, List, length, take}
 use Rattle.esc_values.specs.declared.csi_param.CsiParam.{CsiParam}
 use Rattle.esc_frame.specs.Changed.{Changed}

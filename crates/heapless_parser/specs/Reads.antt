@@ -1,10 +1,10 @@
--- What is read from the first of some bytes.
+-- Runs at the first of some bytes.
 use Rattle.std.specs.Prelude.{ℕ, ◌≤◌, List, length, take}
 use Rattle.heapless_parser.specs.Runs.{IsTextRun}
 
--- So many of the bytes, from the first, are a run of characters.
+-- The first `taken` bytes are a run of characters.
 pub record BeginsWithText (bytes : List ℕ) (taken : ℕ) : Type 0 where
-  -- no more than there are
+  -- no more bytes are taken than there are
   pub few : taken ≤ length bytes
-  -- well-formed, and without controls
+  -- the bytes are well-formed, and have no controls
   pub run : IsTextRun (take taken bytes)

@@ -1,4 +1,4 @@
--- What a parser keeps of the stream that it was fed.
+-- The part of a stream that a parser keeps.
 use Rattle.std.specs.Prelude.{ℕ, ◌≡◌, ◌≤◌, ◌/◌, true, false, nat_lt, if◌then◌else◌, List, [], ◌++◌, length, take, drop, map, Option, Some, None}
 use Rattle.esc_values.specs.declared.csi_param.CsiParam.{CsiParam}
 use Rattle.esc_frame.specs.declared.unfinished.body.Form.TheVariants as form
@@ -21,7 +21,7 @@ use Rattle.heapless_parser.specs.Emitted.{param_of, queued_of}
 abbrev pub begun_in : EscParser → List ℕ
 begun_in p = begun_bytes p.pending p.first p.second p.third
 
--- the first two of these bytes, and whether there are more
+-- the parser keeps the first two of these bytes, and whether there are more
 abbrev pub FirstIn : EscParser → List ℕ → Type 0
 FirstIn p x = (take p.kept p.intermediates ≡ take 2 x) × (p.has_more ≡ nat_lt 2 (length x))
     × (p.kept ≡ length (take 2 x))
@@ -31,12 +31,12 @@ abbrev pub ParamsIn : EscParser → List CsiParam → Type 0
 ParamsIn p all = (p.count ≤ 256)
     × AreFirst (map param_of (take p.count p.csi_params)) p.is_truncated 256 all
 
--- the number of the run of digits at the end
+-- the parser keeps the number of the run of digits at the end
 abbrev pub NumberIn : EscParser → Option ℕ → Type 0
 NumberIn p None = p.is_open ≡ false
 NumberIn p (Some n) = (p.is_open ≡ true) × (p.number ≡ capped_at_i64 n)
 
--- the parameters and the form of the body of a control sequence so far
+-- the parser keeps the parameters and the form of the body of a control sequence so far
 abbrev pub BodyIn : EscParser → List ℕ → Type 0
 BodyIn p x =
     (p.count ≤ 256)
@@ -44,8 +44,8 @@ BodyIn p x =
     × NumberIn p (number_of_run None x)
     × (form_numbered p.form ≡ form_from form.Empty x)
 
--- the form of the header of a device control string so far, and its bytes that are no parameter
--- bytes
+-- the parser keeps the form of the header of a device control string so far, and its bytes that are
+-- no parameter bytes
 abbrev pub HeaderIn : EscParser → List ℕ → Type 0
 HeaderIn p x = FirstIn p (others_of x)
     × (form_numbered p.form ≡ form_by is_dcs_parameter form.Empty x)
@@ -53,8 +53,8 @@ HeaderIn p x = FirstIn p (others_of x)
 abbrev pub TextIn : EscParser → List ℕ → List ℕ → Type 0
 TextIn p memory t = KeepsBorrowed (Some (length memory)) p.is_over p.text memory t
 
--- What the parser, and the memory that it was lent, keep of what is unfinished: of a string no more
--- than the memory has room for.
+-- The parser, and the memory that it was lent, keep this unfinished segment, and of a string no
+-- more than has room in the memory.
 abbrev pub KeptIn : EscParser → List ℕ → Unfinished → Type 0
 KeptIn p memory Ground = (state_numbered p.state ≡ state.Ground) × (begun_in p ≡ [])
 KeptIn p memory (Pending f) = (state_numbered p.state ≡ state.Ground) × (begun_in p ≡ f)
@@ -74,9 +74,9 @@ KeptIn p memory (InOscPending o ps f) =
     (state_numbered p.state ≡ state.Osc) × TextIn p memory (text_of ps) × (begun_in p ≡ f)
     × (is_empty f ≡ false)
 
--- The parser may have been fed this stream, and have handed out these events: it keeps what is
--- unfinished of the stream, and the events of the stream, of which no string is longer than the
--- memory, are those and the one that is still to be handed out.
+-- The parser may have been fed this stream, and have handed out these events: it keeps the
+-- unfinished segment of the stream, and the events of the stream, with the memory's length as the
+-- limit, are these and the queued one.
 unfoldable pub HasConsumed : List ℕ → List Event → EscParser → List ℕ → Type 0
 HasConsumed s es p memory =
     (p.has_failed ≡ false) × KeptIn p memory (after_all Ground s)
@@ -84,10 +84,10 @@ HasConsumed s es p memory =
 
 -- ---- the two halves of a buffer
 
--- what keeps the unfinished string
+-- the half that keeps the unfinished string
 abbrev pub lower : List ℕ → List ℕ
 lower buffer = take (length buffer / 2) buffer
 
--- what the text that is handed out is copied to
+-- the half that a text is copied to when it is handed out
 abbrev pub upper : List ℕ → List ℕ
 upper buffer = drop (length buffer / 2) buffer

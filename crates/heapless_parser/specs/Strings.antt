@@ -1,4 +1,4 @@
--- What the numbers of a parser say, after a step, of a string that it was in before.
+-- A string that a parser was in before a step, by its numbers after it.
 use Rattle.std.specs.Prelude.{ℕ, ◌≡◌, ◌≢◌, ◌≤◌, ◌⊎◌, ◌-◌, true, false, List, length, slice_index}
 use Rattle.esc_frame.specs.Machine.Taking.{OpensOsc}
 use Rattle.heapless_parser.specs.declared.event.EscEvent.{EscEvent}
@@ -17,7 +17,8 @@ HasLeft state introducer p x =
     (p.state ≢ state)
     ⊎ ((p.text ≡ 0) × (p.is_over ≡ false) × (p.pending ≡ 0) × (last_byte x ≡ introducer))
 
--- the final byte of the header of a device control string which is past the limit, and has its form
+-- the byte is the final byte of a header of a device control string that is past the limit, and has
+-- its form
 abbrev pub EndsHeader : Place → List ℕ → Type 0
 EndsHeader before x =
     (before.state ≡ HEADER_STATE) × (before.is_over ≡ true) × (before.form ≢ MALFORMED)
@@ -35,9 +36,8 @@ EndsString before p x =
 abbrev pub IsQuiet : EscEvent → EscParser → Type 0
 IsQuiet e p = ((e.kind ≡ NONE) ⊎ (e.kind ≡ CONTROL)) × (p.queued_kind ≡ NONE)
 
--- From the one parser and event to the other: nothing changed, or in the place of nothing, or of a
--- control, that was noted it is noted that a string was past the limit, as these bytes ended one. A
--- control is handed out after it.
+-- From the one parser and event to the other nothing changed; or these bytes ended a string past
+-- the limit, and that was noted in the place of no event, or of a control, which is queued.
 abbrev pub NotesLimit : Place → EscParser → EscParser → EscEvent → EscEvent → List ℕ → Type 0
 NotesLimit before p q e f x =
     ((q ≡ p) × (f ≡ e))

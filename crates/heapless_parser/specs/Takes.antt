@@ -1,4 +1,4 @@
--- What calls that take a byte, or the bytes that come first, promise of the parser and the event.
+-- The promises of calls that take a byte, or the bytes that come first.
 use Rattle.std.specs.Prelude.{ℕ, ◌≡◌, ◌≢◌, ◌≤◌, ◌<◌, ◌⊎◌, Bool, true, false, List, [], ◌∷◌, ◌++◌, length, take}
 use Rattle.esc_frame.specs.Changed.{Changed}
 use Rattle.esc_frame.specs.Machine.Keeps.{parameters_of}
@@ -18,9 +18,9 @@ pub record TakesByte (parser : Changed EscParser) (event : Changed EscEvent) (by
   -- a byte that is not taken changes nothing
   pub other : is_taken ≡ false
       → (parser.exit.now ≡ parser.entry.now) × (event.exit.now ≡ event.entry.now)
-  -- what is queued stays, and so does a failure
+  -- the queued event stays, and so does a failure
   pub queued : IsDueAs parser.exit.now parser.entry.now
-  -- after a byte that is taken the parser keeps what is unfinished, and the event says what is
+  -- after a byte that is taken the parser keeps the unfinished segment, and the event says what is
   -- emitted
   pub notes : is_taken ≡ true → (out : List ℕ) (limit : ℕ)
       → Notes parser.entry.now parser.exit.now event.exit.now out limit (byte ∷ [])
@@ -32,10 +32,10 @@ pub record TakesHeaderByte (parser : Changed EscParser) (memory out : Changed (L
   pub other : is_taken ≡ false
       → (parser.exit.now ≡ parser.entry.now) × (event.exit.now ≡ event.entry.now)
       × (memory.exit.now ≡ memory.entry.now)
-  -- what is queued stays, and so does a failure
+  -- the queued event stays, and so does a failure
   pub queued : IsDueAs parser.exit.now parser.entry.now
-  -- after a byte that is taken parser and memory keep what is unfinished, and the event says what
-  -- is emitted
+  -- after a byte that is taken parser and memory keep the unfinished segment, and the event says
+  -- what is emitted
   pub steps : is_taken ≡ true
       → Steps parser.entry.now parser.exit.now event.exit.now out.exit.now memory.entry.now
       memory.exit.now (byte ∷ [])
@@ -47,39 +47,38 @@ pub record TakesEnd (parser : Changed EscParser) (memory : List ℕ) (out : Chan
   pub other : is_taken ≡ false
       → (parser.exit.now ≡ parser.entry.now) × (event.exit.now ≡ event.entry.now)
       × (out.exit.now ≡ out.entry.now)
-  -- what is queued stays, and so does a failure
+  -- the queued event stays, and so does a failure
   pub queued : IsDueAs parser.exit.now parser.entry.now
-  -- after a byte that is taken the parser keeps what is unfinished, and the event says what is
+  -- after a byte that is taken the parser keeps the unfinished segment, and the event says what is
   -- emitted
   pub steps : is_taken ≡ true
       → Steps parser.entry.now parser.exit.now event.exit.now out.exit.now memory memory
       (byte ∷ [])
 
--- A control broke off a string or data, and did what it does between sequences, or it was not
--- taken.
+-- A control broke off a string or data, and then acted as between sequences, or it was not taken.
 pub record Leaves (parser : Changed EscParser) (memory : List ℕ) (out : Changed (List ℕ))
     (event : Changed EscEvent) (byte : ℕ) (is_taken : Bool) : Type 0 where
   -- a control that is not taken changes neither the parser nor the event
   pub other : is_taken ≡ false
       → (parser.exit.now ≡ parser.entry.now) × (event.exit.now ≡ event.entry.now)
-  -- the parser has failed where it had
+  -- the parser has failed if it had
   pub failed : parser.exit.now.has_failed ≡ parser.entry.now.has_failed
-  -- after a control that is taken the parser keeps what is unfinished, and the event, with what is
-  -- queued, says what is emitted
+  -- after a control that is taken the parser keeps the unfinished segment, and the event, with the
+  -- queued one, says what is emitted
   pub gives : is_taken ≡ true
       → Gives parser.entry.now parser.exit.now event.exit.now out.exit.now memory memory (byte ∷ [])
 
--- A byte was taken that broke something off, so that a second event may be queued.
+-- A byte that broke a segment off was taken, so a second event may be queued.
 pub record GivesByte (parser : Changed EscParser) (event : EscEvent) (byte : ℕ) : Type 0 where
-  -- the parser has failed where it had
+  -- the parser has failed if it had
   pub failed : parser.exit.now.has_failed ≡ parser.entry.now.has_failed
-  -- the parser keeps what is unfinished then, and the event, with what is queued, says what is
+  -- the parser keeps the unfinished segment then, and the event, with the queued one, says what is
   -- emitted
   pub gives : (out memory : List ℕ)
       → Gives parser.entry.now parser.exit.now event out memory memory (byte ∷ [])
 
--- The parser keeps what is unfinished after this move: nothing of a string yet, so whatever the
--- memory holds.
+-- The parser keeps the unfinished segment after this move. That is no text of a string yet, so it
+-- holds for any memory.
 abbrev pub KeepsAfter : EscParser → Move → Type 0
 KeepsAfter p move = (memory : List ℕ) → KeptIn p memory move.0
 
@@ -87,7 +86,7 @@ KeepsAfter p move = (memory : List ℕ) → KeptIn p memory move.0
 pub record Makes (parser : Changed EscParser) (event : EscEvent) (move : Move) : Type 0 where
   pub kept : KeepsAfter parser.exit.now move
   pub says : (out : List ℕ) → sent_events event out ≡ move.1
-  -- what is queued stays, and so does a failure
+  -- the queued event stays, and so does a failure
   pub queued : IsDueAs parser.exit.now parser.entry.now
 
 -- ---- the text of a string
@@ -98,41 +97,41 @@ pub record TakesText (parser : Changed EscParser) (memory : Changed (List ℕ)) 
   -- bytes that are not taken change nothing
   pub other : is_taken ≡ false
       → (parser.exit.now ≡ parser.entry.now) × (memory.exit.now ≡ memory.entry.now)
-  -- what is queued stays, and so does a failure
+  -- the queued event stays, and so does a failure
   pub queued : IsDueAs parser.exit.now parser.entry.now
-  -- after bytes that are taken parser and memory keep what is unfinished
+  -- after bytes that are taken parser and memory keep the unfinished segment
   pub passes : is_taken ≡ true
       → PassesIn parser.entry.now parser.exit.now memory.entry.now memory.exit.now x
 
--- A text was appended to the one that is kept, or it was not.
+-- A text was appended to the kept one, or it was not.
 pub record Appends (parser : Changed EscParser) (memory : Changed (List ℕ)) (text : List ℕ)
     (is_taken : Bool) : Type 0 where
   -- a text that is not taken changes nothing
   pub other : is_taken ≡ false
       → (parser.exit.now ≡ parser.entry.now) × (memory.exit.now ≡ memory.entry.now)
-  -- but for the text that is kept the parser is as before
+  -- the parser is as before but for the kept text
   pub same : parser.exit.now ≡ record parser.entry.now {
     text = parser.exit.now.text;
     is_over = parser.exit.now.is_over;
   }
-  -- what is kept is the old text and this one, or that there was more than the limit
+  -- the parser keeps the old text and this one, or that the string is past the limit
   pub kept : is_taken ≡ true → (t : List ℕ) → TextIn parser.entry.now memory.entry.now t
       → TextIn parser.exit.now memory.exit.now (t ++ text)
 
--- The parser is in the state that it was in, and what is queued stays.
+-- The parser is in the state that it was in, and the queued event stays.
 abbrev pub StaysIn : EscParser → EscParser → Type 0
 StaysIn new old = (new.state ≡ old.state) × IsDueAs new old
 
--- But for the parameters of a control sequence, and whether its last number goes on, the parser is
--- as before.
+-- The parser is as before but for the parameters of a control sequence, and whether its last number
+-- goes on.
 abbrev pub KeepsForm : EscParser → EscParser → Type 0
 KeepsForm new old = (new.form ≡ old.form) × IsBodyChange new old
 
 -- A byte was added to the body of a control sequence.
 pub record AddsToBody (parser : Changed EscParser) (byte : ℕ) : Type 0 where
-  -- the body that is kept has the byte at its end
+  -- the kept body has the byte at its end
   pub body : (x : List ℕ) → BodyIn parser.entry.now x → BodyIn parser.exit.now (x ++ byte ∷ [])
-  -- but for the body the parser is as before
+  -- the parser is as before but for the body
   pub same : IsBodyChange parser.exit.now parser.entry.now
 
 -- A parameter byte was added to the header of a device control string, or it was not.
@@ -143,7 +142,7 @@ pub record AddsToHeader (parser : Changed EscParser) (memory : Changed (List ℕ
       → (parser.exit.now ≡ parser.entry.now) × (memory.exit.now ≡ memory.entry.now)
   -- the parser is in the state that it was in
   pub same : StaysIn parser.exit.now parser.entry.now
-  -- the parameter bytes that are kept, and the header, have the byte at their end
+  -- the kept parameter bytes, and the header, have the byte at their end
   pub text : is_taken ≡ true → (x : List ℕ)
       → TextIn parser.entry.now memory.entry.now (parameters_of x)
       → TextIn parser.exit.now memory.exit.now (parameters_of (x ++ byte ∷ []))
@@ -152,27 +151,27 @@ pub record AddsToHeader (parser : Changed EscParser) (memory : Changed (List ℕ
 
 -- ---- the bytes that come first
 
--- Bytes that are passed over were taken, from the first on, or none.
+-- Ignored bytes were taken, from the first on, or none.
 pub record Skips (parser : Changed EscParser) (bytes : List ℕ) (taken : ℕ) : Type 0 where
-  -- no more than there are
+  -- no more bytes are taken than there are
   pub few : taken ≤ length bytes
-  -- where none are taken, nothing changed
+  -- if none are taken, nothing changed
   pub none : taken ≡ 0 → parser.exit.now ≡ parser.entry.now
-  -- what is queued stays, and so does a failure
+  -- the queued event stays, and so does a failure
   pub queued : IsDueAs parser.exit.now parser.entry.now
-  -- the parser keeps what is unfinished after these bytes, and they emit nothing
+  -- the parser keeps the unfinished segment after these bytes, and they emit nothing
   pub passes : 0 < taken → Passes parser.entry.now parser.exit.now (take taken bytes)
 
--- Bytes were taken, from the first on, or none. `notes` says of some bytes what holds of parser and
--- event where they are those that were taken.
+-- Bytes were taken, from the first on, or none. `notes` is the statement about parser and event for
+-- the bytes that were taken.
 pub record TakesWhole (parser : Changed EscParser) (event : Changed EscEvent) (bytes : List ℕ)
     (taken : ℕ) (notes : List ℕ → Type 0) : Type 0 where
-  -- no more than there are
+  -- no more bytes are taken than there are
   pub few : taken ≤ length bytes
-  -- where none are taken, nothing changed
+  -- if none are taken, nothing changed
   pub none : taken ≡ 0
       → (parser.exit.now ≡ parser.entry.now) × (event.exit.now ≡ event.entry.now)
-  -- what is queued stays, and so does a failure
+  -- the queued event stays, and so does a failure
   pub queued : IsDueAs parser.exit.now parser.entry.now
   pub noted : 0 < taken → notes (take taken bytes)
 
@@ -180,58 +179,60 @@ pub record TakesWhole (parser : Changed EscParser) (event : Changed EscEvent) (b
 -- on, or none.
 pub record TakesPart (parser : Changed EscParser) (memory out : Changed (List ℕ))
     (event : Changed EscEvent) (bytes : List ℕ) (taken : ℕ) : Type 0 where
-  -- no more than there are
+  -- no more bytes are taken than there are
   pub few : taken ≤ length bytes
-  -- where none are taken, nothing changed
+  -- if none are taken, nothing changed
   pub none : taken ≡ 0
       → (parser.exit.now ≡ parser.entry.now) × (event.exit.now ≡ event.entry.now)
       × (memory.exit.now ≡ memory.entry.now)
-  -- what is queued stays, and so does a failure
+  -- the queued event stays, and so does a failure
   pub queued : IsDueAs parser.exit.now parser.entry.now
-  -- parser and memory keep what is unfinished after these bytes, and the event says what is emitted
+  -- parser and memory keep the unfinished segment after these bytes, and the event says what is
+  -- emitted
   pub steps : 0 < taken
       → Steps parser.entry.now parser.exit.now event.exit.now out.exit.now memory.entry.now
       memory.exit.now (take taken bytes)
 
--- The same, where what breaks something off is taken too, so that a second event may be queued.
+-- The same holds, and a byte that breaks a segment off may be taken too, so a second event may be
+-- queued.
 pub record GivesPart (parser : Changed EscParser) (memory out : Changed (List ℕ))
     (event : Changed EscEvent) (bytes : List ℕ) (taken : ℕ) : Type 0 where
-  -- no more than there are
+  -- no more bytes are taken than there are
   pub few : taken ≤ length bytes
-  -- where none are taken, nothing changed
+  -- if none are taken, nothing changed
   pub none : taken ≡ 0
       → (parser.exit.now ≡ parser.entry.now) × (event.exit.now ≡ event.entry.now)
       × (memory.exit.now ≡ memory.entry.now)
   -- nothing is queued after no event
   pub queued : event.exit.now.kind ≡ NONE
       → queued_of parser.exit.now.queued_kind parser.exit.now.queued_value ≡ []
-  -- the parser has failed where it had
+  -- the parser has failed if it had
   pub failed : parser.exit.now.has_failed ≡ parser.entry.now.has_failed
-  -- parser and memory keep what is unfinished after these bytes, and the event, with what is
-  -- queued, says what is emitted
+  -- parser and memory keep the unfinished segment after these bytes, and the event, with the queued
+  -- one, says what is emitted
   pub gives : 0 < taken
       → Gives parser.entry.now parser.exit.now event.exit.now out.exit.now memory.entry.now
       memory.exit.now (take taken bytes)
 
 -- ---- what the event is then
 
--- But for its kind and its byte the event is as before.
+-- The event is as before but for its kind and its byte.
 abbrev pub IsSingleChange : EscEvent → EscEvent → Type 0
 IsSingleChange new old = new ≡ record old {
   kind = new.kind;
   byte = new.byte;
 }
 
--- The event is none, or of one of two kinds that have a byte alone.
+-- There is no event, or one of two kinds that have a byte alone.
 pub record NotesSingle (a b : ℕ) (event : Changed EscEvent) : Type 0 where
   pub kind : (event.exit.now.kind ≡ NONE) ⊎ (event.exit.now.kind ≡ a) ⊎ (event.exit.now.kind ≡ b)
   pub same : IsSingleChange event.exit.now event.entry.now
 
--- The event may have become a control sequence, or what has a byte alone.
+-- The event may have become a control sequence, or one that has a byte alone.
 pub record NotesCsi (event : Changed EscEvent) : Type 0 where
-  -- its parameters are no more than it has places for
+  -- it has a place for each parameter
   pub count : event.exit.now.count ≤ 256
-  -- but for what these say it is as before
+  -- it is as before but for the fields of these
   pub same : event.exit.now ≡ record event.entry.now {
     kind = event.exit.now.kind;
     count = event.exit.now.count;
@@ -244,13 +245,13 @@ pub record NotesCsi (event : Changed EscEvent) : Type 0 where
 abbrev pub IsCountedAs : EscEvent → EscEvent → Type 0
 IsCountedAs new old = (new.count ≡ old.count) × (new.kept ≡ old.kept)
 
--- Where bytes were taken, the event is a text of this kind, within this room.
+-- If bytes were taken, the event is a text of this kind, within this room.
 pub record NotesText (kind room : ℕ) (event : Changed EscEvent) (is_taken : Type 0)
     : Type 0 where
   pub some : is_taken → (event.exit.now.kind ≡ kind) × (event.exit.now.length ≤ room)
   pub within : IsCountedAs event.exit.now event.entry.now
 
--- Bytes of a string were taken, and the event is none, or of this kind, that of its text.
+-- Bytes of a string were taken, and there is no event, or one of this kind, that of its text.
 pub record TakesPartOf (text : ℕ) (parser : Changed EscParser) (memory out : Changed (List ℕ))
     (event : Changed EscEvent) (bytes : List ℕ) (taken : ℕ) : Type 0 where
   pub takes : TakesPart parser memory out event bytes taken
@@ -258,19 +259,19 @@ pub record TakesPartOf (text : ℕ) (parser : Changed EscParser) (memory out : C
   pub within : IsCountedAs event.exit.now event.entry.now
       × (event.exit.now.length ≤ length out.entry.now)
 
--- no more parameters and intermediates are counted than the event has places for, and its text is
--- within this room
+-- the event has a place for each counted parameter and intermediate, and its text is within this
+-- room
 abbrev pub IsInRoom : EscEvent → ℕ → Type 0
 IsInRoom e room = (e.count ≤ 256) × (e.kept ≤ 2) × (e.length ≤ room)
 
--- Where bytes were taken, the event is an escape sequence without intermediates.
+-- If bytes were taken, the event is an escape sequence without intermediates.
 pub record NotesFinal (event : Changed EscEvent) (is_taken : Type 0) : Type 0 where
   pub some : is_taken → (event.exit.now.kind ≡ ESCAPE) × (event.exit.now.kept ≡ 0)
   -- it has the parameters and the text that it had
   pub within : (event.exit.now.count ≡ event.entry.now.count)
       × (event.exit.now.length ≡ event.entry.now.length)
 
--- Where bytes were taken, the event is a sequence or a command, and no run; it is within this room.
+-- If bytes were taken, the event is a sequence or a command, and no run; it is within this room.
 pub record NotesSequence (event : EscEvent) (room : ℕ) (is_taken : Type 0) : Type 0 where
   pub some : is_taken → (event.kind ≢ NONE) × (event.kind ≢ TEXT) × (event.kind < FAILED)
       × (is_run event.kind ≡ false)

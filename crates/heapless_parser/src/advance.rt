@@ -1,4 +1,4 @@
-//! The next events of some bytes.
+//! Takes the next events of some bytes.
 #![tactic(auto)]
 
 ghost use Rattle.std.specs.Prelude.{◌≡◌, ◌≤◌, ◌<◌, [], ℕ, List, true, false, length, take, IsTrue};
@@ -21,8 +21,8 @@ use crate::step::step;
 use crate::strings::note_string;
 use esc_frame::runs::scans::data_run;
 
-// The run of characters, or of data, that comes first, where the parser is where one may come. It
-// changes no state.
+// Notes the run of characters or of data that comes first, in a state in which one may come. The
+// state stays.
 #[inline(always)]
 fn run_ahead(parser: &EscParser, bytes: &[u8], event: &mut EscEvent) -> usize
     requires { Asked event.old bytes.now }
@@ -53,8 +53,8 @@ fn note_run(event: &mut EscEvent, kind: u32, run: usize) -> usize
     run
 }
 
-// Notes the run, the control or the short control sequence that comes first, where one may come;
-// nothing where something else comes.
+// Notes the run, the control or the short control sequence that comes first, in a state in which
+// one may come. If something else comes, it takes nothing.
 #[inline(always)]
 fn note_first(parser: &EscParser, bytes: &[u8], event: &mut EscEvent) -> usize
     requires { AskedWithin event.old bytes.now ((event.old.count ≤ 256) × (event.old.kept ≤ 2)) }
@@ -71,8 +71,8 @@ fn note_first(parser: &EscParser, bytes: &[u8], event: &mut EscEvent) -> usize
     note_quick(parser, bytes, event)
 }
 
-/// Notes what comes first, where that needs no machine: a run, a control, or a sequence or a
-/// command that lies whole in the bytes. Nothing where something else comes.
+/// Notes the run, the control, the sequence or the command that comes first, if it lies whole in
+/// the bytes and needs no machine. If something else comes, it takes nothing.
 #[inline(always)]
 pub fn ahead(
     parser: &mut EscParser,
@@ -94,7 +94,7 @@ pub fn ahead(
     note_string(parser, limit, out, bytes, event)
 }
 
-/// Takes a prefix of the bytes, at least one, and notes what they give; a run lies at the first of
+/// Takes a prefix of the bytes, at least one, and notes their event; a run begins at the first of
 /// them. After a failure nothing counts as taken. No sound state fails.
 pub fn advance(
     parser: &mut EscParser,
@@ -119,7 +119,8 @@ pub fn advance(
     by_machine(parser, memory, out, bytes, event)
 }
 
-// The same by a machine, which is set up for it. It is out of the way of what needs none.
+// Does the same by a machine, which it sets up. It is a function of its own, so that the other
+// bytes need not pay for it.
 #[inline(never)]
 fn by_machine(
     parser: &mut EscParser,
@@ -145,7 +146,7 @@ fn by_machine(
     taken
 }
 
-// Whether a character or a control is still to be handed out.
+// Returns whether a character or a control is queued.
 fn gives_queued(parser: &EscParser) -> bool
     ensures none { result ≡ false → queued_of parser.now.queued_kind parser.now.queued_value ≡ [] }
     ensures some { parser.now.queued_kind ≡ NONE → result ≡ false }
@@ -153,7 +154,8 @@ fn gives_queued(parser: &EscParser) -> bool
     parser.queued_kind == CHARACTER || parser.queued_kind == CONTROL
 }
 
-// Whether the event is no run and no failure, and its counts and its text are within bounds.
+// Returns whether the event is no run and no failure, and its counts and its text are within
+// bounds.
 fn is_sound(event: &EscEvent, room: usize) -> bool
     ensures sound { IsTrue result → IsSound event.now room }
     ensures all { IsSound event.now room → IsTrue result }

@@ -34,8 +34,8 @@ pub fn put_pending(parser: &mut EscParser, pending: Pending)
     parser.third = third;
 }
 
-/// Takes a byte of a character or of a C1 control, the first or a later one. False where the byte
-/// is none, and then nothing changes.
+/// Takes a byte of a character or of a C1 control, the first or a later one. If the byte is none,
+/// returns false and changes nothing.
 #[inline(always)]
 pub fn note_character(parser: &mut EscParser, byte: u8, event: &mut EscEvent) -> bool
     requires ground { parser.old.state ≡ GROUND }
@@ -63,7 +63,7 @@ pub fn note_character(parser: &mut EscParser, byte: u8, event: &mut EscEvent) ->
     }
 }
 
-/// Whether the byte breaks off a character that has begun.
+/// Returns whether the byte breaks off a character that has begun.
 pub fn is_broken(parser: &EscParser, byte: u8) -> bool
     ensures outcome { result ≡ true → outcome (begun_in parser.now) byte ≡ Outcome.Broken }
     ensures some { result ≡ true → is_empty (begun_in parser.now) ≡ false }
@@ -78,8 +78,8 @@ pub fn is_broken(parser: &EscParser, byte: u8) -> bool
     }
 }
 
-/// Notes a character that was broken off, as U+FFFD. What the byte gives that broke it off is
-/// handed out after it.
+/// Notes a character that was broken off, as U+FFFD. The event of the byte that broke it off is
+/// queued.
 pub fn note_broken(parser: &mut EscParser, byte: u8, event: &mut EscEvent)
     requires { BreaksCharacter parser.old byte }
     ensures event { event.new ≡ record event.old { kind = CHARACTER; byte = REPLACEMENT } }

@@ -1,4 +1,4 @@
-//! What lies in two chunks of the stream, taken without a machine.
+//! Sequences, strings and characters that lie in two chunks of the stream, taken without a machine.
 #![tactic(auto)]
 
 ghost use Rattle.std.specs.Prelude.{◌≡◌, ◌≤◌, ◌<◌, true, false, length};
@@ -22,8 +22,8 @@ use crate::numbers::{
 };
 use crate::parser::EscParser;
 
-// Takes a byte between sequences, or one of a character. False where the byte breaks the character
-// off, and then nothing changes.
+// Takes a byte between sequences, or one of a character. If the byte breaks the character off,
+// returns false and changes nothing.
 #[inline(always)]
 fn note_in_ground(parser: &mut EscParser, byte: u8, event: &mut EscEvent) -> bool
     requires ground { parser.old.state ≡ GROUND }
@@ -39,7 +39,7 @@ fn note_in_ground(parser: &mut EscParser, byte: u8, event: &mut EscEvent) -> boo
     }
 }
 
-// Takes the first byte, where it is one of a sequence, of a character or of data.
+// Takes the first byte, if it is one of a sequence, of a character or of data.
 #[inline(always)]
 fn note_byte(parser: &mut EscParser, byte: u8, event: &mut EscEvent) -> bool
     requires { IsFresh event.old ((event.old.count ≤ 256) × (event.old.kept ≤ 2)) }
@@ -61,7 +61,7 @@ fn note_byte(parser: &mut EscParser, byte: u8, event: &mut EscEvent) -> bool
     }
 }
 
-// Takes the first byte, where it is one of a header.
+// Takes the first byte, if it is one of a header.
 #[inline(always)]
 fn note_header(
     parser: &mut EscParser,
@@ -83,8 +83,8 @@ fn note_header(
     }
 }
 
-// Takes what comes first, where it continues a sequence, a string or a character, or begins one: at
-// least a byte. Nothing where something else comes.
+// Takes the bytes that come first, at least one, if they continue or begin a sequence, a string or
+// a character. If something else comes, it takes nothing.
 #[inline(always)]
 fn note_step(
     parser: &mut EscParser,
@@ -112,9 +112,8 @@ fn note_step(
     }
 }
 
-/// Takes what comes first, where it continues a sequence, a string or a character, begins one, or
-/// breaks it off: at least a byte. Nothing where something else comes, which is left to the
-/// machine.
+/// Takes the bytes that come first, at least one, if they continue, begin or break off a sequence,
+/// a string or a character. If something else comes, it takes nothing and leaves it to the machine.
 #[inline(always)]
 pub fn note_part(
     parser: &mut EscParser,

@@ -15,7 +15,7 @@ use esc_frame::unfinished::csi_params::Params;
 use esc_frame::unfinished::param_list::ParamList;
 use esc_values::csi_param::CsiParam;
 
-// A parameter, as numbers.
+// Returns the entry of a parameter.
 fn param_of_list(param: CsiParam) -> EscEntry
     ensures { param_of result ≡ param }
 {
@@ -43,7 +43,7 @@ pub fn put_csi_params(csi_params: &mut [EscEntry], params: &[CsiParam])
     }
 }
 
-// The parameter of these numbers.
+// Returns the parameter of an entry.
 fn param_from(entry: EscEntry) -> CsiParam
     ensures { result ≡ param_of entry }
 {
@@ -54,7 +54,7 @@ fn param_from(entry: EscEntry) -> CsiParam
     }
 }
 
-// The parameters of these numbers.
+// Returns the parameters of these entries.
 fn list_of(csi_params: &[EscEntry]) -> ParamList
     requires { length csi_params.now ≤ 256 }
     ensures { result ≡ map param_of csi_params.now }
@@ -66,7 +66,7 @@ fn list_of(csi_params: &[EscEntry]) -> ParamList
     items
 }
 
-/// The body of a control sequence that a parser keeps.
+/// Returns the body of a control sequence that a parser keeps.
 #[tactic(auto, using(crate::proofs::KeptState::PartsOfMachine::body_loaded))]
 pub fn body_in(parser: &EscParser) -> CsiBody
     ensures { (x : List ℕ) → BodyIn parser.now x → KeepsBody result x }
@@ -84,7 +84,7 @@ pub fn body_in(parser: &EscParser) -> CsiBody
     }
 }
 
-/// Keeps it.
+/// Keeps the body in the parser's numbers.
 pub fn put_body(parser: &mut EscParser, body: &CsiBody)
     ensures body { (x : List ℕ) → KeepsBody body.now x → BodyIn parser.new x }
     ensures due { IsDueAs parser.new parser.old }

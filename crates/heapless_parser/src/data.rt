@@ -1,4 +1,4 @@
-//! The data of a device control string, and what is passed over, where they come in chunks.
+//! The data of a device control string, and ignored strings, that come in chunks.
 #![tactic(auto)]
 
 ghost use Rattle.std.specs.Prelude.{◌≡◌, ◌∷◌, [], true, false};
@@ -13,8 +13,8 @@ use crate::parser::EscParser;
 use esc_frame::classes::{Breaker, Class, classify};
 use esc_frame::runs::scans::ascii_run;
 
-/// Takes a byte of data that is in no run, or the ESC that ends them. False where the byte is
-/// another control that ends them, and then nothing changes.
+/// Takes a byte of data that is in no run, or the ESC that ends them. If the byte is another
+/// control that ends them, returns false and changes nothing.
 #[inline(never)]
 pub fn note_in_data(parser: &mut EscParser, byte: u8, event: &mut EscEvent) -> bool
     requires state { parser.old.state ≡ DATA_STATE }
@@ -47,7 +47,7 @@ pub fn note_in_data(parser: &mut EscParser, byte: u8, event: &mut EscEvent) -> b
     }
 }
 
-// Takes one byte that is passed over, or the ESC that ends it.
+// Takes one byte of an ignored string, or the ESC that ends it.
 #[inline(always)]
 fn skip_one(parser: &mut EscParser, byte: u8) -> bool
     requires { parser.old.state ≡ IGNORED_STATE }
@@ -75,8 +75,8 @@ fn skip_one(parser: &mut EscParser, byte: u8) -> bool
     }
 }
 
-/// Takes what is passed over and comes first, or the ESC that ends it; nothing where another
-/// control ends it.
+/// Takes the bytes of an ignored string that come first, or the ESC that ends it. If another
+/// control ends it, it takes nothing.
 #[inline(never)]
 pub fn note_ignored(parser: &mut EscParser, bytes: &[u8]) -> usize
     requires { FedIn IGNORED_STATE parser.old bytes.now }

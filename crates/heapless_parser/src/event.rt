@@ -1,9 +1,9 @@
-//! What a call gives: one event, as numbers and places.
+//! An event of a call, as numbers and places.
 #![tactic(auto)]
 
 ghost use Rattle.std.specs.Prelude.{◌≡◌, false, pos};
 
-/// Nothing came: all bytes were taken.
+/// There is no event: all bytes were taken.
 pub const NONE: u32 = 0;
 
 /// A run of characters, as a place in the bytes of the call.
@@ -28,39 +28,39 @@ pub const OSC: u32 = 6;
 /// place in the buffer.
 pub const DCS: u32 = 7;
 
-/// A run of its data, as a place in the bytes of the call.
+/// A run of data of a device control string, as a place in the bytes of the call.
 pub const DATA: u32 = 8;
 
-/// A byte of its data.
+/// A byte of data of a device control string.
 pub const DATA_BYTE: u32 = 9;
 
-/// It ends.
+/// A device control string ends.
 pub const DCS_END: u32 = 10;
 
 /// An application program command: its text, as a place in the buffer.
 pub const APC: u32 = 11;
 
-/// The parser failed: nothing more comes of it. A state that its own calls reached never fails.
+/// The parser failed, and gives no more events. A state that its own calls reached never fails.
 pub const FAILED: u32 = 12;
 
-/// A string ended, or the header of a device control string, of which there was more than the lower
-/// half of the buffer keeps: its event is not handed out.
+/// A string, or the header of a device control string, ended and was longer than the lower half of
+/// the buffer: its event is not handed out.
 pub const LIMIT: u32 = 13;
 
 /// A parameter of a control sequence: a number, or a byte 3A to 3F or 20 to 2F.
 #[repr(C)]
 #[derive(Clone, Copy)]
 pub struct EscEntry {
-    /// The number, where the parameter is no byte.
+    /// The number, if the parameter is no byte.
     pub number: i64,
-    /// The byte, where it is one.
+    /// The byte, if the parameter is one.
     pub byte: u8,
-    /// Whether it is a byte.
+    /// Whether the parameter is a byte.
     pub is_byte: bool,
 }
 
 impl EscEntry {
-    /// The number 0.
+    /// Returns the number 0.
     pub fn none() -> Self
         ensures number { result.number ≡ pos 0 }
         ensures kind { result.is_byte ≡ false }
@@ -95,7 +95,7 @@ pub struct EscEvent {
 }
 
 impl EscEvent {
-    /// No event.
+    /// Returns no event.
     pub fn new() -> Self
         ensures { result.kind ≡ NONE }
     {
@@ -112,7 +112,7 @@ impl EscEvent {
         }
     }
 
-    /// Makes it no event. Its parameters and its intermediates stay, and are not counted.
+    /// Makes it no event. Its parameters and intermediates stay, and are not counted.
     pub fn clear(&mut self)
         ensures kind { self.new.kind ≡ NONE }
         ensures none { (self.new.start ≡ 0) × (self.new.length ≡ 0) × (self.new.kept ≡ 0)

@@ -1,4 +1,4 @@
-//! The parameters of an event, as a body is read into them.
+//! Reading a body of a control sequence into the parameters of an event.
 #![tactic(auto)]
 
 ghost use Rattle.heapless_parser.specs.Emitted.{param_of};

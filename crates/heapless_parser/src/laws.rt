@@ -7,8 +7,8 @@ ghost use Rattle.heapless_parser.specs.Growing.{AreShort};
 ghost use Rattle.heapless_parser.specs.States.{HasConsumed};
 ghost use Rattle.heapless_parser.specs.declared.parser.EscParser.{EscParser};
 
-/// A parser goes on with more memory, which begins with what it had, as if it had had all of it
-/// from the beginning, where no string so far was longer than what it had.
+/// A parser that gets more memory, which begins with the bytes of the old one, goes on as if it had
+/// had all of it from the beginning, if no string so far was longer than the old memory.
 #[tactic(auto, using(crate::proofs::Growing::grows))]
 pub fn memory_grows()
     ensures { (s : List ℕ) (es : List Event) (gs : List Segment) (p : EscParser)

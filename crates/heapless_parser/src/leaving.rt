@@ -1,5 +1,4 @@
-//! Controls that end a string and do what they do between sequences, where the string came in
-//! chunks.
+//! Controls that end a string that came in chunks, and then act as between sequences.
 #![tactic(auto)]
 
 ghost use Rattle.std.specs.Prelude.{◌≡◌, ◌≢◌, ◌⊎◌, true, false, length};
@@ -17,7 +16,7 @@ use crate::parser::EscParser;
 use crate::strings::put_text;
 use esc_frame::classes::{Class, classify};
 
-/// Whether the byte breaks off a sequence or a string.
+/// Returns whether the byte breaks off a sequence or a string.
 #[inline(always)]
 pub fn is_breaker(byte: u8) -> bool
     ensures { result ≡ is_breaker (class_of byte) }
@@ -25,7 +24,7 @@ pub fn is_breaker(byte: u8) -> bool
     matches!(classify(byte), Class::Breaks(_))
 }
 
-/// Takes a byte as between sequences. What it gives is handed out after another event.
+/// Takes a byte as between sequences, and queues its character or its control.
 #[inline(always)]
 pub fn queue_in_ground(parser: &mut EscParser, byte: u8)
     ensures kept { KeepsAfter parser.new (ground_move byte (class_of byte)) }
@@ -38,7 +37,8 @@ pub fn queue_in_ground(parser: &mut EscParser, byte: u8)
     parser.queued_value = single.value;
 }
 
-// A command, whose text is handed out. False where it is past the limit, and then nothing changes.
+// Ends a command and hands out its text. If that is past the limit, returns false and changes
+// nothing.
 #[inline(always)]
 fn leave_text(
     parser: &mut EscParser,
@@ -63,7 +63,7 @@ fn leave_text(
     true
 }
 
-// The data of a device control string, which end.
+// Ends the data of a device control string.
 #[inline(always)]
 fn leave_data(parser: &mut EscParser, byte: u8, event: &mut EscEvent)
     requires state { parser.old.state ≡ DATA_STATE }
@@ -75,8 +75,8 @@ fn leave_data(parser: &mut EscParser, byte: u8, event: &mut EscEvent)
     event.kind = DCS_END;
 }
 
-/// Takes a control that ends a string or data. False where there is none, or its text is past the
-/// limit, and then nothing changes.
+/// Takes a control that ends a string or data. If there is none, or its text is past the limit,
+/// returns false and changes nothing.
 #[inline(never)]
 pub fn end_string(
     parser: &mut EscParser,

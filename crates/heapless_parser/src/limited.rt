@@ -1,4 +1,4 @@
-//! Strings that are longer than the limit, which end without their event.
+//! Strings longer than the limit, which end without their event.
 #![tactic(auto)]
 
 ghost use Rattle.std.specs.Prelude.{◌≡◌, ◌<◌, length, IsTrue};
@@ -10,7 +10,7 @@ use crate::numbers::{APC_STATE, GROUND, HEADER_STATE, MALFORMED, OSC_STATE};
 use crate::parser::EscParser;
 use esc_frame::utf8::sequence::lies_from;
 
-/// Where a parser is before a step, as far as it says whether the step ends a string.
+/// The state of a parser before a step, as far as it decides whether the step ends a string.
 #[derive(Clone, Copy)]
 pub struct Place {
     pub state: u32,
@@ -20,7 +20,7 @@ pub struct Place {
 }
 
 impl Place {
-    /// Where this parser is.
+    /// Returns the place of this parser.
     #[inline(always)]
     pub fn of(parser: &EscParser) -> Self
         ensures state { result.state ≡ parser.now.state }
@@ -37,7 +37,7 @@ impl Place {
     }
 }
 
-// Whether a string of this state was left, where this control opens one.
+// Returns whether the parser left a string of this state, which this control opens.
 fn has_left(state: u32, introducer: u8, parser: &EscParser, bytes: &[u8]) -> bool
     requires { 0 < length bytes.now }
     ensures { IsTrue result → HasLeft state introducer parser.now bytes.now }
@@ -49,14 +49,15 @@ fn has_left(state: u32, introducer: u8, parser: &EscParser, bytes: &[u8]) -> boo
             && bytes[bytes.len() - 1] == introducer)
 }
 
-// Whether the bytes begin with the opener of an operating system command, and go on after it.
+// Returns whether the bytes begin with the opener of an operating system command, and go on after
+// it.
 fn opens_osc(bytes: &[u8]) -> bool
     ensures { IsTrue result → OpensOsc bytes.now }
 {
     bytes.len() > 2 && bytes[0] == 0x1b && bytes[1] == b']'
 }
 
-// Whether the byte is the final byte of a header that is past the limit, and has its form.
+// Returns whether the byte is the final byte of a header that is past the limit, and has its form.
 fn ends_header(before: Place, bytes: &[u8]) -> bool
     ensures { IsTrue result → EndsHeader before bytes.now }
 {
@@ -67,7 +68,8 @@ fn ends_header(before: Place, bytes: &[u8]) -> bool
         && lies_from(0x40, 0x7e, bytes[0])
 }
 
-// Whether these bytes, taken from this place on, ended a string, or a header past the limit.
+// Returns whether these bytes, taken from this place on, ended a string, or a header past the
+// limit.
 fn ends_string(before: Place, parser: &EscParser, bytes: &[u8]) -> bool
     requires { 0 < length bytes.now }
     ensures { IsTrue result → EndsString before parser.now bytes.now }
@@ -83,15 +85,15 @@ fn ends_string(before: Place, parser: &EscParser, bytes: &[u8]) -> bool
     }
 }
 
-// Whether nothing was noted, or a control alone.
+// Returns whether nothing was noted, or a control alone.
 fn is_quiet(event: &EscEvent, parser: &EscParser) -> bool
     ensures { IsTrue result → IsQuiet event.now parser.now }
 {
     (event.kind == NONE || event.kind == CONTROL) && parser.queued_kind == NONE
 }
 
-/// Notes that a string was longer than the limit, where these bytes, taken from this place on,
-/// ended one, and no event of it was noted. A control that was noted is handed out after it.
+/// Notes that a string was longer than the limit, if these bytes, taken from this place on, ended
+/// one, and no event of it was noted. A control that was noted is queued.
 pub fn note_limited(before: Place, parser: &mut EscParser, event: &mut EscEvent, bytes: &[u8])
     requires { 0 < length bytes.now }
     ensures { NotesLimit before parser.old parser.new event.old event.new bytes.now }

@@ -1,4 +1,4 @@
-//! The machine that a parser's numbers say.
+//! Making a machine of a parser's numbers.
 #![tactic(auto)]
 
 ghost use Rattle.std.specs.Prelude.{◌≡◌, ℕ, List, length, Some};
@@ -40,7 +40,7 @@ fn header_in(parser: &EscParser) -> DcsHeader
     }
 }
 
-/// The machine of this parser, over the memory that it was lent, whose length is its limit.
+/// Returns the machine of this parser, over the memory that it was lent, whose length is its limit.
 pub fn load<'a, N: Named>(
     parser: &EscParser,
     memory: &'a mut [u8],

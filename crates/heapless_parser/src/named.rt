@@ -1,26 +1,26 @@
-//! Which references a value holds.
+//! Names of the references that a value holds.
 ghost use Rattle.std.specs.Prelude.{ℕ};
 ghost use Rattle.std.specs.Borrow.{GName};
 
 use std::marker::Brand;
 
-/// The references that a call was lent, by the names that proofs know them by, and how much room
-/// two of them have. A value that is said to hold a reference of this name holds the very one that
-/// was lent, whatever was done to it in between.
+/// The references that a call was lent, by their names in proofs, and the lengths of two of them. A
+/// value that holds a reference of this name holds the very one that was lent, whatever was done to
+/// it in between.
 pub trait Named {
-    // that to what is kept of a string
+    // the reference to the kept text of a string
     ghost kept: { GName };
 
     // its length
     ghost room: { ℕ };
 
-    // that to the text that is handed out
+    // the reference to the text that is handed out
     ghost out: { GName };
 
     // its length
     ghost place: { ℕ };
 
-    // that to the event
+    // the reference to the event
     ghost event: { GName };
 }
 

@@ -1,4 +1,4 @@
-//! Numbers for what a machine keeps as variants.
+//! Numbers for the variants of a machine.
 #![tactic(auto)]
 
 ghost use Rattle.std.specs.Prelude.{◌≡◌};
@@ -29,7 +29,7 @@ pub const HEADER_STATE: u32 = 4;
 /// The number of a parser in the data of a device control string.
 pub const DATA_STATE: u32 = 5;
 
-/// The number of a parser in what is passed over.
+/// The number of a parser in an ignored string.
 pub const IGNORED_STATE: u32 = 6;
 
 /// The number of a parser in an application program command.
@@ -90,7 +90,7 @@ pub fn number_of_form(form: Form) -> u32
     }
 }
 
-/// The bytes of a character that have come.
+/// Returns the bytes of a character that have come.
 pub fn pending_in(parser: &EscParser) -> Pending
     ensures { prefix_of result ≡ begun_in parser.now }
 {
@@ -102,7 +102,7 @@ pub fn pending_in(parser: &EscParser) -> Pending
     }
 }
 
-/// How many they are, and each of them, or 0.
+/// Returns how many these bytes are, and each of them, or 0.
 pub fn numbers_of_pending(pending: Pending) -> (u32, u8, u8, u8)
     ensures { begun_bytes result.0 result.1 result.2 result.3 ≡ prefix_of pending }
 {

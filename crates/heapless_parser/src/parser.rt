@@ -1,4 +1,4 @@
-//! What a parser keeps between two calls, as numbers alone.
+//! The state of a parser between two calls, as numbers alone.
 #![tactic(auto)]
 
 ghost use Rattle.std.specs.Prelude.{◌≡◌, ◌↔◌, List, ℕ, [], IsTrue, false, true};
@@ -15,9 +15,9 @@ use esc_frame::utf8::sequence::Pending;
 #[repr(C)]
 #[derive(Drop)]
 pub struct EscParser {
-    /// Where it is: the number of a state.
+    /// The number of its state.
     pub state: u32,
-    /// How many bytes of a character have come, and these.
+    /// The number of bytes of a character that have come, and these bytes.
     pub pending: u32,
     pub first: u8,
     pub second: u8,
@@ -26,27 +26,27 @@ pub struct EscParser {
     pub intermediates: [u8; 2],
     pub kept: usize,
     pub has_more: bool,
-    /// How far the body of a control sequence, or that header, has come in its form.
+    /// The number of the form of the body of a control sequence, or of that header, so far.
     pub form: u32,
     /// The parameters of a control sequence.
     pub count: usize,
     pub csi_params: [EscEntry; 256],
     pub is_truncated: bool,
-    /// The number at their end.
+    /// Whether digits come last, and their number.
     pub is_open: bool,
     pub number: u64,
-    /// How much of a string is kept, and whether there was more than the limit.
+    /// The length of the kept text of a string, and whether the string is past the limit.
     pub text: usize,
     pub is_over: bool,
-    /// A character or a control that is still to be handed out.
+    /// The queued character or control, which the next call hands out.
     pub queued_kind: u32,
     pub queued_value: u32,
-    /// Whether it failed.
+    /// Whether the parser has failed.
     pub has_failed: bool,
 }
 
 impl EscParser {
-    /// A parser at the beginning of a stream.
+    /// Returns a parser at the beginning of a stream.
     #[tactic(auto, unfolding(crate::specs::States::HasConsumed, esc_frame::specs::Stream::events_within))]
     pub fn new() -> Self
         ensures { (memory : List ℕ) → HasConsumed [] [] result memory }
@@ -74,8 +74,8 @@ impl EscParser {
         }
     }
 
-    /// Whether no character, sequence or string of what was fed is unfinished. After a failure it
-    /// is false.
+    /// Returns whether no character, sequence or string of the stream so far is unfinished. After a
+    /// failure it is false.
     pub fn is_ground(&self) -> bool
         ensures ground { (s : List ℕ) (es : List Event) (memory : List ℕ)
             → HasConsumed s es self.now memory → IsTrue result ↔ IsAtGround s }

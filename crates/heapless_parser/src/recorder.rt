@@ -1,4 +1,4 @@
-//! What notes the events of a call.
+//! The sink that notes the events of a call.
 #![tactic(auto)]
 
 ghost use Rattle.std.specs.Prelude.{◌≡◌, ◌≢◌, ◌≤◌, ◌<◌, true, false, length, IsTrue};
@@ -19,8 +19,8 @@ use esc_values::csi_param::CsiParam;
 use std::alloc::{AllocError, Allocator};
 use std::marker::PhantomData;
 
-/// Notes the first event, and the second where that is a character or a control. A text goes to
-/// `out`. Of an event for which there is no place it notes that it was lost.
+/// A sink that notes the first event, and queues the second if that is a character or a control. It
+/// copies a text to `out`. If there is no place for an event, it notes that one was lost.
 #[derive(Drop)]
 pub struct Recorder<'b, 'c, N: Named> {
     pub event: &'c mut EscEvent,
@@ -71,7 +71,7 @@ fn put_escape(event: &mut EscEvent, intermediates: &[u8], has_more: bool, byte: 
 }
 
 impl<'b, 'c, N: Named> Recorder<'b, 'c, N> {
-    // Whether nothing was noted.
+    // Returns whether nothing was noted.
     fn is_new(&self) -> bool
         ensures kind { IsTrue result → self.now.event.now.kind ≡ NONE }
         ensures queued { IsTrue result → self.now.queued_kind ≡ NONE }
@@ -103,7 +103,7 @@ impl<'b, 'c, N: Named> Recorder<'b, 'c, N> {
         }
     }
 
-    // Notes a text, or that it was lost, for want of a place or as another event was noted.
+    // Notes a text, or that it was lost, since there is no place or another event was noted.
     fn put(&mut self, kind: u32, text: &[u8]) -> bool
         ensures noted { result ≡ true → (self.new.event.now.kind ≡ kind)
             × (text_of self.new.event.now self.new.out.now ≡ text.now)
@@ -139,7 +139,7 @@ impl<'b, 'c, N: Named> Recorder<'b, 'c, N> {
         self.put(OSC, text);
     }
 
-    // Notes a header, for whose parameter bytes there is a place.
+    // Notes a header, whose parameter bytes have a place.
     fn note_header(&mut self, byte: u8, parameters: &[u8], intermediates: &[u8], has_more: bool)
         requires { length parameters.now ≤ N.place }
         ensures { Adds N.place self.old.event.now self.old.out.now self.old.queued_kind
@@ -168,7 +168,7 @@ impl<'b, 'c, N: Named> EventSink for Recorder<'b, 'c, N> {
 
     ghost may = { λ _ _. Unit {0} };
 
-    // It stops by itself where there is no place for the text.
+    // It stops by itself if there is no place for the text.
     ghost stops = { λ _ t. N.place < length t };
 
     fn print(&mut self, c: char) -> Result<(), AllocError> {

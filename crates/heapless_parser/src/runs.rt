@@ -6,8 +6,7 @@ ghost use Rattle.heapless_parser.specs.Reads.{BeginsWithText};
 
 use esc_frame::runs::scans::{ascii_run, free_run};
 
-/// How many of the bytes, from the first, are a run of characters that is seen at once. It need not
-/// be the longest.
+/// Returns the length of a run of characters at the first byte. It need not be the longest.
 #[inline(always)]
 pub fn text_run(bytes: &[u8]) -> usize
     requires { 0 < length bytes.now }
@@ -24,7 +23,7 @@ pub fn text_run(bytes: &[u8]) -> usize
     }
 }
 
-// The bytes 20 to 7F that come first.
+// Returns how many bytes 20 to 7F come first.
 #[inline(always)]
 fn ascii_text(bytes: &[u8]) -> usize
     ensures { BeginsWithText bytes.now result }
@@ -32,7 +31,7 @@ fn ascii_text(bytes: &[u8]) -> usize
     ascii_run(bytes)
 }
 
-// The same of few bytes, one after another.
+// Returns how many bytes 20 to 7F come first, one after another.
 #[inline(always)]
 fn few_text(bytes: &[u8]) -> usize
     ensures { BeginsWithText bytes.now result }
@@ -44,7 +43,7 @@ fn few_text(bytes: &[u8]) -> usize
     at
 }
 
-/// The bytes 20 to 7F that come first, of many bytes or of few.
+/// Returns how many bytes 20 to 7F come first. If `few`, it looks at them one by one.
 #[inline(always)]
 pub fn plain_text(bytes: &[u8], few: bool) -> usize
     ensures { BeginsWithText bytes.now result }
@@ -56,7 +55,7 @@ pub fn plain_text(bytes: &[u8], few: bool) -> usize
     }
 }
 
-// How many bytes the character has that begins with this byte.
+// Returns how many bytes the character has that begins with this byte.
 #[inline(always)]
 fn size_of(first: u8) -> usize {
     if first < 0xe0 {
@@ -68,8 +67,7 @@ fn size_of(first: u8) -> usize {
     }
 }
 
-// The place of the character that ends the bytes, where some of its own are still to come, or
-// `end`.
+// Returns the place of the character that the bytes end in, if it is unfinished, or `end`.
 #[inline(always)]
 fn before_cut(bytes: &[u8], end: usize) -> usize
     requires { end ≤ length bytes.now }
@@ -89,8 +87,7 @@ fn before_cut(bytes: &[u8], end: usize) -> usize
     }
 }
 
-// A run that is well-formed, or nothing. A character at its end that goes on in the next chunk is
-// left out.
+// Returns the length of a well-formed run, or 0. An unfinished character at its end is left out.
 #[inline(never)]
 fn wide_text(bytes: &[u8]) -> usize
     ensures { BeginsWithText bytes.now result }

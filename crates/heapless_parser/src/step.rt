@@ -1,4 +1,4 @@
-//! One step of the machine, on what is lent for a call.
+//! One step of the machine, over the references that a call is lent.
 #![tactic(auto)]
 
 ghost use Rattle.std.specs.Prelude.{◌≡◌, ◌||◌, ℕ, true, false, length, Ok};
@@ -18,18 +18,18 @@ use esc_frame::machine::Machine;
 use std::alloc::AllocError;
 use std::marker::{Brand, PhantomData};
 
-/// What was lent for a step, and how the step went.
+/// The references that were lent for a step, and its outcome.
 #[derive(Drop)]
 pub struct Borrow<'a, 'b, 'c> {
     pub memory: &'a mut [u8],
     pub out: &'b mut [u8],
     pub event: &'c mut EscEvent,
-    /// How many bytes were taken.
+    /// The number of bytes taken.
     pub taken: usize,
     pub has_failed: bool,
 }
 
-// Takes a prefix of the bytes, at least one, and notes what they give.
+// Takes a prefix of the bytes, at least one, and notes their events.
 fn step_in<'a, 'b, 'c, N: Named>(
     parser: &mut EscParser,
     memory: &'a mut [u8],
@@ -55,7 +55,7 @@ fn step_in<'a, 'b, 'c, N: Named>(
     into_parts(machine, recorder, taken, has_failed)
 }
 
-// How many bytes were taken, and whether that failed.
+// Returns how many bytes were taken, and whether that failed.
 fn taken_of(outcome: Result<usize, AllocError>) -> (usize, bool)
     ensures ok { result.1 ≡ false → outcome ≡ Ok (result.0) }
     ensures fails { (n : ℕ) → outcome ≡ Ok n → result.1 ≡ false }
@@ -67,7 +67,7 @@ fn taken_of(outcome: Result<usize, AllocError>) -> (usize, bool)
     }
 }
 
-// Notes nothing yet.
+// Returns a recorder that has noted nothing yet.
 fn listen<'b, 'c, N: Named>(out: &'b mut [u8], event: &'c mut EscEvent) -> Recorder<'b, 'c, N>
     requires { IsLentToNote N.Named out.ghost_name event.ghost_name (length out.old) }
     ensures now { (result.out.now ≡ out.old) × (result.event.now ≡ event.old) }
@@ -84,7 +84,7 @@ fn listen<'b, 'c, N: Named>(out: &'b mut [u8], event: &'c mut EscEvent) -> Recor
     }
 }
 
-// Gives back what was lent.
+// Gives back the references that were lent.
 fn into_parts<'a, 'b, 'c, N: Named>(
     machine: Machine<BorrowedText<'a, N>, NoMemory>,
     recorder: Recorder<'b, 'c, N>,
@@ -132,9 +132,9 @@ fn into_parts<'a, 'b, 'c, N: Named>(
     }
 }
 
-/// Takes a prefix of the bytes, at least one, and notes what they give. Returns how many bytes were
-/// taken, and whether that failed, which it does at no sound state. It is out of the way of what
-/// needs no machine.
+/// Takes a prefix of the bytes, at least one, and notes their events. Returns how many bytes were
+/// taken, and whether that failed; no sound state fails. It is a function of its own, so that bytes
+/// that need no machine need not pay for it.
 #[inline(never)]
 pub fn step(
     parser: &mut EscParser,

@@ -1,4 +1,4 @@
-//! What is kept of a string, in memory that was lent.
+//! The kept text of a string, in memory that was lent.
 #![tactic(auto)]
 
 ghost use Rattle.std.specs.Prelude.{◌≡◌, ◌≢◌, ◌≤◌, [], Option, Some, true, false, length};
@@ -15,7 +15,7 @@ use std::marker::PhantomData;
 pub struct BorrowedText<'a, N: Named> {
     pub memory: &'a mut [u8],
     pub count: usize,
-    /// Whether there was more than the limit.
+    /// Whether the string is past the limit.
     pub is_over: bool,
     pub of: PhantomData<N>,
     ghost same: { memory.ghost_name ≡ N.kept },
@@ -26,7 +26,7 @@ pub struct BorrowedText<'a, N: Named> {
 impl<'a, N: Named> TextRoom for BorrowedText<'a, N> {
     ghost keeps = { λ limit k t. KeepsBorrowed limit k.is_over k.count k.memory.now t };
 
-    // It asks for no memory, and where the limit is its room it never fails.
+    // It asks for no memory, and if the limit is its room it never fails.
     ghost may_fail = { λ limit. limit ≢ Some N.room };
 
     #[inline]

@@ -1,4 +1,4 @@
-//! The numbers that a parser keeps of a machine.
+//! Storing a machine in a parser's numbers.
 #![tactic(auto)]
 
 ghost use Rattle.std.specs.Prelude.{◌≡◌, ℕ, List, Some};
@@ -39,7 +39,7 @@ fn put_header(parser: &mut EscParser, header: &DcsHeader)
     parser.form = number_of_form(header.form);
 }
 
-// The numbers that are kept in each state.
+// Stores the numbers that are kept in each state.
 fn put_place(parser: &mut EscParser, state: State, pending: Pending, text: usize, is_over: bool)
     ensures place { IsPlacedAt parser.new state (prefix_of pending) text is_over }
     ensures parts { KeepsParts parser }
@@ -55,7 +55,7 @@ fn put_place(parser: &mut EscParser, state: State, pending: Pending, text: usize
     parser.is_over = is_over;
 }
 
-// What is kept in some states alone.
+// Stores the numbers that are kept in some states alone.
 fn put_parts<K: TextRoom>(parser: &mut EscParser, machine: &Machine<K, NoMemory>)
     ensures first { (x : List ℕ) → machine.now.state ≡ State.Escape
         → Keeps machine.now.intermediates x → FirstIn parser.new x }
@@ -73,7 +73,7 @@ fn put_parts<K: TextRoom>(parser: &mut EscParser, machine: &Machine<K, NoMemory>
     }
 }
 
-/// Keeps a machine in a parser's numbers, and in the memory that it was lent.
+/// Stores a machine in a parser's numbers, and in the memory that it was lent.
 pub fn unload<'a, N: Named>(
     parser: &mut EscParser,
     machine: &Machine<BorrowedText<'a, N>, NoMemory>,

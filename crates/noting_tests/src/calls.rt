@@ -5,7 +5,7 @@ use std::io;
 use std::io::{ErrorKind, Read, Write};
 use std::test::Fail;
 
-// How many bytes a call took, or the kind of its error; and how many calls that came to.
+// Returns how many bytes a call took, or the kind of its error; and how many calls that came to.
 fn told(
     outcome: io::Result<usize>,
     inner: ErrorCapture<Scripted>,

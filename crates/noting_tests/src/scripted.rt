@@ -8,13 +8,13 @@ use std::io::{ErrorKind, Read, Write};
 pub struct Scripted {
     /// The errors of the calls, in turn.
     pub errors: &'static [ErrorKind],
-    /// How many calls have been made.
+    /// Says how many calls have been made.
     pub calls: usize,
-    /// How many of these were flushes.
+    /// Says how many of these were flushes.
     pub flushes: usize,
 }
 
-/// One to which nothing came yet.
+/// Returns a reader and writer to which nothing came yet.
 pub fn with_errors(errors: &'static [ErrorKind]) -> Scripted {
     Scripted {
         errors,
@@ -24,7 +24,7 @@ pub fn with_errors(errors: &'static [ErrorKind]) -> Scripted {
 }
 
 impl Scripted {
-    // How the next call ends.
+    // Says how the next call ends.
     fn next(&mut self) -> io::Result<()> {
         self.calls = self.calls.wrapping_add(1);
         match self.errors.split_first() {

@@ -10,7 +10,7 @@ const NULL: &str = "/dev/null";
 // not read.
 const ROOT: &str = "/";
 
-// How many standard streams there are, whose descriptors are the first numbers.
+// Says how many standard streams there are, whose descriptors are the first numbers.
 const STREAMS: i32 = 3;
 
 /// Opens the null device at each of the descriptors 0, 1 and 2 that is closed, so that no file that

@@ -12,8 +12,8 @@ use std::os::unix::fs::MetadataExt;
 /// The message about a file that a program does not read since standard output is that file.
 pub const IS_OUTPUT: &str = "the output is this file";
 
-/// Whether standard output is the regular file of which this is known. The program would read its
-/// own output, with no end.
+/// Returns whether standard output is the regular file with this metadata. The program would read
+/// its own output, with no end.
 ///
 /// It is not, if nothing is known of one of them; standard output is known by the system's answer
 /// about `/dev/stdout`.

@@ -5,7 +5,7 @@ ghost use Rattle.page_input.specs.Addresses.{HasAddress, IsAddress, begins_with,
 
 use memchr::memchr;
 
-// How many bytes of an address a link may have: as many as VTE and iTerm2 take.
+// Says how many bytes of an address a link may have: as many as VTE and iTerm2 take.
 const LONGEST: usize = 2083;
 
 /// The place of an address in a text.
@@ -13,14 +13,14 @@ const LONGEST: usize = 2083;
 pub(crate) struct Place {
     /// The place of its first byte.
     pub begin: usize,
-    /// How many bytes it has.
+    /// Says how many bytes it has.
     pub length: usize,
 }
 
-/// The first address in a text that comes after this byte: `http://` or `https://`, in letters of
-/// either case, after no letter, digit or `_`, and a letter or digit, with all that may be in an
-/// address (RFC 3986, 2), without the stops that end a sentence and brackets that it does not open.
-/// One that is longer than a link may be is none.
+/// Returns the first address in a text that comes after this byte: `http://` or `https://`, in
+/// letters of either case, after no letter, digit or `_`, and a letter or digit, with all that may
+/// be in an address (RFC 3986, 2), without the stops that end a sentence and brackets that it does
+/// not open. One that is longer than a link may be is none.
 pub(crate) fn first_address(text: &[u8], previous: u8) -> Option<Place>
     ensures { IfSome result (HasAddress previous text.now) }
 {
@@ -39,7 +39,7 @@ pub(crate) fn first_address(text: &[u8], previous: u8) -> Option<Place>
     None
 }
 
-// The length of the scheme that a text ends in, `http` or `https`; 0 if there is none.
+// Returns the length of the scheme that a text ends in, `http` or `https`; 0 if there is none.
 fn scheme_length(text: &[u8]) -> usize {
     if ends_in(text, b"http") {
         4
@@ -50,7 +50,7 @@ fn scheme_length(text: &[u8]) -> usize {
     }
 }
 
-// Whether a text ends in this word, in letters of either case.
+// Returns whether a text ends in this word, in letters of either case.
 fn ends_in(text: &[u8], word: &[u8]) -> bool {
     let start = text.len().saturating_sub(word.len());
     match text.get(start..) {
@@ -59,7 +59,7 @@ fn ends_in(text: &[u8], word: &[u8]) -> bool {
     }
 }
 
-// The address that begins at this place, after no letter, digit or `_`.
+// Returns the address that begins at this place, after no letter, digit or `_`.
 fn address_at(text: &[u8], begin: usize, previous: u8) -> Option<Place>
     ensures { IfSome result (HasAddress previous text.now) }
 {
@@ -73,7 +73,7 @@ fn address_at(text: &[u8], begin: usize, previous: u8) -> Option<Place>
     Some(Place { begin, length })
 }
 
-// The byte before this place.
+// Returns the byte before this place.
 fn byte_before(text: &[u8], at: usize, previous: u8) -> u8
     ensures { result ≡ byte_before previous text.now at }
 {
@@ -84,8 +84,8 @@ fn byte_before(text: &[u8], at: usize, previous: u8) -> u8
     }
 }
 
-// The length of the address that a text begins with; 0 if there is none, or a longer one than a
-// link may have.
+// Returns the length of the address that a text begins with; 0 if there is none, or a longer one
+// than a link may have.
 fn address_length(text: &[u8]) -> usize
     ensures within { result ≤ length text.now }
     ensures found { 0 < result → IsAddress (take result text.now) }
@@ -98,14 +98,14 @@ fn address_length(text: &[u8]) -> usize
     if has_host(address) { address.len() } else { 0 }
 }
 
-// Whether an address begins with a scheme, `//`, and a letter or digit.
+// Returns whether an address begins with a scheme, `//`, and a letter or digit.
 fn has_host(address: &[u8]) -> bool
     ensures { result ≡ has_host address.now }
 {
     begins_with(address, b"http://") || begins_with(address, b"https://")
 }
 
-// Whether it begins with this, in letters of either case, and a letter or digit.
+// Returns whether it begins with this, in letters of either case, and a letter or digit.
 fn begins_with(address: &[u8], scheme: &[u8]) -> bool
     ensures { result ≡ begins_with scheme.now address.now }
 {
@@ -114,8 +114,8 @@ fn begins_with(address: &[u8], scheme: &[u8]) -> bool
         && address[scheme.len()].is_ascii_alphanumeric()
 }
 
-// An address without the stops that end a sentence, and without closing brackets that it does not
-// open.
+// Returns an address without the stops that end a sentence, and without closing brackets that it
+// does not open.
 fn without_end(address: &[u8]) -> &[u8]
     ensures begins { result.now ≡ take (length result.now) address.now }
     ensures within { length result.now ≤ length address.now }
@@ -135,7 +135,7 @@ fn without_end(address: &[u8]) -> &[u8]
     &address[..end]
 }
 
-// How many brackets more it opens than it closes.
+// Returns how many brackets more it opens than it closes.
 fn unclosed(address: &[u8]) -> i64 {
     let mut open = 0i64;
     for byte in address {
@@ -148,7 +148,7 @@ fn unclosed(address: &[u8]) -> i64 {
     open
 }
 
-// Whether it ends a sentence.
+// Returns whether it ends a sentence.
 fn is_stop(byte: u8) -> bool
     ensures { result ≡ is_stop byte }
 {
@@ -161,7 +161,8 @@ fn is_word(byte: u8) -> bool
     byte.is_ascii_alphanumeric() || byte == b'_'
 }
 
-/// How many bytes come first that may be in an address, up to one more than a link may have.
+/// Returns how many bytes come first that may be in an address, up to one more than a link may
+/// have.
 pub(crate) fn address_run(text: &[u8]) -> usize
     ensures within { result ≤ length text.now }
     ensures bytes { list_all is_address_byte (take result text.now) ≡ true }
@@ -176,14 +177,15 @@ pub(crate) fn address_run(text: &[u8]) -> usize
     n
 }
 
-/// Whether a byte may be in an address: unreserved, reserved but for square brackets, or `%`.
+/// Returns whether a byte may be in an address: unreserved, reserved but for square brackets, or
+/// `%`.
 pub(crate) fn is_address_byte(byte: u8) -> bool
     ensures { result ≡ is_address_byte byte }
 {
     byte.is_ascii_alphanumeric() || is_sign(byte)
 }
 
-// Whether it is one that is no letter and no digit.
+// Returns whether it is one that is no letter and no digit.
 fn is_sign(byte: u8) -> bool
     ensures { result ≡ is_sign byte }
 {

@@ -4,15 +4,15 @@ use crate::colors::{Colors, hls, rgb_of};
 use esc_sixel::{Sixel, SixelData};
 use std::alloc::{AllocError, Global};
 
-// How many pixels are above one another in a band.
+// Says how many pixels are above one another in a band.
 const BAND: usize = 6;
 
 /// Pixels, each with the number of its colour; 0 if none was drawn.
 #[derive(Drop)]
 pub(crate) struct Canvas {
-    /// How many are beside one another.
+    /// Says how many are beside one another.
     pub width: usize,
-    /// How many lines there are.
+    /// Says how many lines there are.
     pub height: usize,
     /// They, line after line.
     pub cells: Vec<u16>,
@@ -22,7 +22,7 @@ pub(crate) struct Canvas {
 }
 
 impl Canvas {
-    /// So many pixels, none of which is drawn.
+    /// Returns a canvas of so many pixels, none of which is drawn.
     pub fn new(alloc: Global, width: usize, height: usize) -> Result<Canvas, AllocError> {
         let mut cells = Vec::new(alloc);
         let mut line = Vec::new(alloc);
@@ -106,8 +106,8 @@ impl Canvas {
     }
 }
 
-/// The number of pixels of an image beside one another, and of its lines: as many as its raster
-/// attributes or all of its sixels say, and if it draws more, as many as it draws.
+/// Returns the number of pixels of an image beside one another, and of its lines: as many as its
+/// raster attributes or all of its sixels say, and if it draws more, as many as it draws.
 pub(crate) fn size_of(sixel: &Sixel) -> (usize, usize) {
     let (width, height) = sixel.dimensions();
     let mut extent = Extent {
@@ -136,7 +136,7 @@ pub(crate) fn size_of(sixel: &Sixel) -> (usize, usize) {
     (extent.width, extent.height)
 }
 
-// How far sixels reach.
+// Says how far sixels reach.
 #[derive(Clone, Copy)]
 struct Extent {
     x: usize,
@@ -146,7 +146,7 @@ struct Extent {
 }
 
 impl Extent {
-    // With so many columns of these six pixels more.
+    // Adds so many columns of these six pixels.
     fn add(&mut self, value: u8, count: u32) {
         self.x = self.x.saturating_add(size(count));
         if value == 0 {

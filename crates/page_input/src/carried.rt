@@ -18,7 +18,7 @@ pub(crate) struct Carried {
 }
 
 impl Carried {
-    /// At the beginning of a stream in this encoding. Takes no memory.
+    /// Returns the renditions at the beginning of a stream in this encoding. Takes no memory.
     pub fn new(alloc: Global, encoding: Encoding) -> Carried {
         Carried {
             encoding,
@@ -39,7 +39,7 @@ impl Carried {
         }
     }
 
-    // How many bytes come before the next segment.
+    // Returns how many bytes come before the next segment.
     fn text_length(&self, bytes: &[u8]) -> usize {
         if !self.framer.is_ground() {
             return 0;
@@ -50,12 +50,12 @@ impl Carried {
         }
     }
 
-    /// Whether no sequence and no string is unfinished.
+    /// Returns whether no sequence and no string is unfinished.
     pub fn is_ground(&self) -> bool {
         self.framer.is_ground()
     }
 
-    /// The control sequences that make them. The error is that memory was refused.
+    /// Returns the control sequences that make them. The error is that memory was refused.
     pub fn text(&self, alloc: Global) -> Result<String, AllocError> {
         let mut text = String::new(alloc);
         self.hold.pen.push_text(&mut text)?;

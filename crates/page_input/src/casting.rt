@@ -10,20 +10,20 @@ use std::alloc::{AllocError, Global};
 use std::io;
 use std::io::Read;
 
-// How many bytes are read at once.
+// Says how many bytes are read at once.
 const BYTES: usize = 8192;
 
-// How many microseconds a millisecond has.
+// Says how many microseconds a millisecond has.
 const MILLI: u64 = 1000;
 
 /// The part of a recording that is read.
 #[derive(Clone, Copy)]
 pub struct Recorded {
-    /// Whether the stream is a recording; else all of it is read as it is.
+    /// Says whether the stream is a recording; else all of it is read as it is.
     pub is_on: bool,
-    /// Whether each line begins with the time at which its first byte came.
+    /// Says whether each line begins with the time at which its first byte came.
     pub has_times: bool,
-    /// Whether renditions end before such a time, and go on after it.
+    /// Says whether renditions end before such a time, and go on after it.
     pub is_plain: bool,
 }
 
@@ -55,7 +55,7 @@ struct Timed {
 }
 
 impl<R: Read> Casting<R> {
-    /// A reader of the text of this one, from its beginning. Takes no memory.
+    /// Returns a reader of the text of this one, from its beginning. Takes no memory.
     pub fn new(alloc: Global, recorded: Recorded, inner: R) -> Casting<R> {
         Casting {
             inner,
@@ -75,7 +75,7 @@ impl<R: Read> Casting<R> {
         }
     }
 
-    /// The number of the line that is no line of a recording, if one came.
+    /// Returns the number of the line that is no line of a recording, if one came.
     pub fn wrong(&self) -> Option<u64> {
         self.wrong
     }

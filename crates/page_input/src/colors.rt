@@ -6,10 +6,10 @@ use std::alloc::{AllocError, Global};
 /// A colour: red, green and blue.
 pub(crate) type Rgb = (u8, u8, u8);
 
-// How many registers there are.
+// Says how many registers there are.
 const REGISTERS: usize = 1024;
 
-// How many colours an image has at most, each one as often as it is defined.
+// Says how many colours an image has at most, each one as often as it is defined.
 const MOST: usize = 65_535;
 
 // The registers at the beginning, in percent: those of the VT340 (VT330/VT340 Programmer Reference
@@ -47,7 +47,7 @@ pub(crate) struct Colors {
 }
 
 impl Colors {
-    /// Those at the beginning.
+    /// Returns the registers as they are at the beginning.
     pub fn new(alloc: Global) -> Result<Colors, AllocError> {
         let mut found = fallible_alloc::copied(alloc, &[(0, 0, 0)])?;
         for percent in VT340 {
@@ -90,17 +90,17 @@ impl Colors {
         Ok(true)
     }
 
-    /// The number of the colour that is drawn with.
+    /// Returns the number of the colour that is drawn with.
     pub fn current(&self) -> u16 {
         self.of_register(self.selected)
     }
 
-    /// The number of the colour of the background, if that is drawn.
+    /// Returns the number of the colour of the background, if that is drawn.
     pub fn background(&self) -> u16 {
         self.of_register(0)
     }
 
-    /// The colour of this number.
+    /// Returns the colour of this number.
     pub fn color(&self, number: u16) -> Rgb {
         match self.found.get(usize::from(number)) {
             Some(color) => *color,
@@ -108,7 +108,7 @@ impl Colors {
         }
     }
 
-    /// How many numbers there are.
+    /// Returns how many numbers there are.
     pub fn len(&self) -> usize {
         self.found.len()
     }
@@ -121,13 +121,13 @@ impl Colors {
     }
 }
 
-/// A colour by its channels.
+/// Returns a colour by its channels.
 pub(crate) fn rgb_of(color: RgbColor) -> Rgb {
     color.to_tuple_rgb8()
 }
 
-/// A colour by its hue, with 0 for blue, 120 for red and 240 for green, and its lightness and
-/// saturation in percent (VT330/VT340 Programmer Reference Manual, volume 2, chapter 14).
+/// Returns a colour by its hue, with 0 for blue, 120 for red and 240 for green, and its lightness
+/// and saturation in percent (VT330/VT340 Programmer Reference Manual, volume 2, chapter 14).
 pub(crate) fn hls(hue: u16, lightness: u8, saturation: u8) -> Rgb {
     let light = u32::from(lightness.min(100));
     let full = u32::from(saturation.min(100));
@@ -150,7 +150,7 @@ pub(crate) fn hls(hue: u16, lightness: u8, saturation: u8) -> Rgb {
     }
 }
 
-// A channel from 0 to 20,000 as a byte, to the nearest.
+// Returns a channel from 0 to 20,000 as a byte, to the nearest.
 fn byte_of(channel: u32) -> u8 {
     let nearest = channel.saturating_mul(255).saturating_add(10_000) / 20_000;
     u8::try_from(nearest).unwrap_or(u8::MAX)
@@ -160,7 +160,7 @@ fn of_percent(percent: (u8, u8, u8)) -> Rgb {
     (full_of(percent.0), full_of(percent.1), full_of(percent.2))
 }
 
-// A percentage as a byte.
+// Returns a percentage as a byte.
 fn full_of(percent: u8) -> u8 {
     u8::try_from(u32::from(percent).saturating_mul(255) / 100).unwrap_or(u8::MAX)
 }

@@ -41,7 +41,7 @@ pub(crate) struct Unfinished {
     bytes: Vec<u8>,
 }
 
-/// The command that shows an image, if there is one.
+/// Returns the command that shows an image, if there is one.
 pub(crate) fn shown(picture: Option<Picture>) -> Command {
     match picture {
         Some(picture) => Command::Shows(picture),
@@ -49,7 +49,7 @@ pub(crate) fn shown(picture: Option<Picture>) -> Command {
     }
 }
 
-/// The kind of a command of sixels with this text between its opener and its end.
+/// Returns the kind of a command of sixels with this text between its opener and its end.
 pub(crate) fn sixel_command(alloc: Global, text: &[u8]) -> Result<Command, AllocError> {
     let length = header_length(text).min(text.len());
     let (header, data) = text.split_at(length);
@@ -59,7 +59,7 @@ pub(crate) fn sixel_command(alloc: Global, text: &[u8]) -> Result<Command, Alloc
     }
 }
 
-/// How many bytes the parameters of a device control string have.
+/// Returns how many bytes the parameters of a device control string have.
 pub(crate) fn header_length(text: &[u8]) -> usize {
     let mut length = 0usize;
     for byte in text {
@@ -71,13 +71,13 @@ pub(crate) fn header_length(text: &[u8]) -> usize {
     length
 }
 
-/// Whether a command of kitty shows an image, or is a part of one that does: the keys before the
-/// first `;` are in this much of it.
+/// Returns whether a command of kitty shows an image, or is a part of one that does: the keys
+/// before the first `;` are in this much of it.
 pub(crate) fn shows_image(text: &[u8], is_part: bool) -> bool {
     is_part || has_key(text.get(1..).unwrap_or(b""), b';', b',', b"a=T")
 }
 
-/// Whether a text has a key with this value before its end, in a list.
+/// Returns whether a text has a key with this value before its end, in a list.
 pub(crate) fn has_key(text: &[u8], end: u8, comma: u8, key: &'static [u8]) -> bool {
     let mut rest = text
         .get(..memchr(end, text).unwrap_or(text.len()))
@@ -94,8 +94,8 @@ pub(crate) fn has_key(text: &[u8], end: u8, comma: u8, key: &'static [u8]) -> bo
     rest == key
 }
 
-/// The kind of a command of kitty with this text after its opener, if this image is unfinished.
-/// Parts of it come in more commands, up to one that says no more follow.
+/// Returns the kind of a command of kitty with this text after its opener, if this image is
+/// unfinished. Parts of it come in more commands, up to one that says no more follow.
 pub(crate) fn image_command(
     alloc: Global,
     unfinished: &mut Option<Unfinished>,
@@ -120,7 +120,7 @@ pub(crate) fn image_command(
     }
 }
 
-// The image that a command begins, if it is not compressed and lies in the stream.
+// Returns the image that a command begins, if it is not compressed and lies in the stream.
 fn begun(alloc: Global, transmit: &KittyImageTransmit) -> Option<Unfinished> {
     if transmit.compression != KittyImageCompression::None {
         return None;
@@ -158,7 +158,7 @@ fn take_part(
     finished(alloc, image)
 }
 
-// The image, which is all there.
+// Returns the image, which is all there.
 fn finished(alloc: Global, image: Unfinished) -> Result<Command, AllocError> {
     let Unfinished {
         format,
@@ -177,7 +177,7 @@ fn finished(alloc: Global, image: Unfinished) -> Result<Command, AllocError> {
     }
 }
 
-/// Whether a command has no control, as CAN, which ends it, and no byte past ASCII.
+/// Returns whether a command has no control, as CAN, which ends it, and no byte past ASCII.
 pub(crate) fn is_plain(text: &[u8]) -> bool {
     for byte in text {
         if *byte < b' ' || b'~' < *byte {

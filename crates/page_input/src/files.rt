@@ -27,7 +27,7 @@ pub(crate) struct Parts {
     text: Vec<u8>,
 }
 
-/// Whether a command of iTerm2 with this text after its opener has a file or a part of one.
+/// Returns whether a command of iTerm2 with this text after its opener has a file or a part of one.
 pub(crate) fn begins_file(text: &[u8]) -> bool {
     match after(text, PROPRIETARY) {
         Some(text) => {
@@ -40,7 +40,7 @@ pub(crate) fn begins_file(text: &[u8]) -> bool {
     }
 }
 
-/// Whether it may have one, if this is its beginning.
+/// Returns whether it may have one, if this is its beginning.
 pub(crate) fn may_begin_file(text: &[u8]) -> bool {
     match after(text, PROPRIETARY) {
         Some(text) => {
@@ -53,8 +53,8 @@ pub(crate) fn may_begin_file(text: &[u8]) -> bool {
     }
 }
 
-/// Whether a command of iTerm2 shows a file, and is none to save, or is a part of one that does:
-/// the keys before the first `:` are in this much of it.
+/// Returns whether a command of iTerm2 shows a file, and is none to save, or is a part of one that
+/// does: the keys before the first `:` are in this much of it.
 pub(crate) fn shows_file(text: &[u8], is_part: bool) -> bool {
     let text = after(text, PROPRIETARY).unwrap_or(b"");
     match (after(text, FILE), after(text, BEGIN)) {
@@ -64,13 +64,13 @@ pub(crate) fn shows_file(text: &[u8], is_part: bool) -> bool {
     }
 }
 
-// Whether a file of these keys is shown.
+// Returns whether a file of these keys is shown.
 fn is_shown(keys: &[u8]) -> bool {
     has_key(keys, b':', b';', b"inline=1")
 }
 
-/// The kind of a command of iTerm2 with this text between its number and its end, if this file is
-/// unfinished. Parts of it come in more commands, up to one that ends it.
+/// Returns the kind of a command of iTerm2 with this text between its number and its end, if this
+/// file is unfinished. Parts of it come in more commands, up to one that ends it.
 pub(crate) fn file_command(
     alloc: Global,
     unfinished: &mut Option<Parts>,
@@ -91,7 +91,7 @@ pub(crate) fn file_command(
     }
 }
 
-// The rest after this, if a text begins with it.
+// Returns the rest after this, if a text begins with it.
 fn after<'t>(text: &'t [u8], first: &'static [u8]) -> Option<&'t [u8]> {
     if text.starts_with(first) {
         text.get(first.len()..)
@@ -100,7 +100,7 @@ fn after<'t>(text: &'t [u8], first: &'static [u8]) -> Option<&'t [u8]> {
     }
 }
 
-// The command that has all of a file.
+// Returns the command that has all of a file.
 fn whole(alloc: Global, text: &[u8]) -> Result<Command, AllocError> {
     match parsed(alloc, text)? {
         Some(file) if file.inline => {
@@ -112,7 +112,7 @@ fn whole(alloc: Global, text: &[u8]) -> Result<Command, AllocError> {
     }
 }
 
-// The command that begins a file, of these keys.
+// Returns the command that begins a file, of these keys.
 fn begin(
     alloc: Global,
     unfinished: &mut Option<Parts>,
@@ -149,7 +149,7 @@ fn take_part(
     Ok(Command::Part)
 }
 
-// The file, which is all there.
+// Returns the file, which is all there.
 fn finished(alloc: Global, file: Option<Parts>) -> Result<Command, AllocError> {
     let Some(Parts { name, text }) = file else {
         return Ok(Command::Other);
@@ -160,7 +160,7 @@ fn finished(alloc: Global, file: Option<Parts>) -> Result<Command, AllocError> {
     }
 }
 
-// The file of a command, if it can be read.
+// Returns the file of a command, if it can be read.
 fn parsed(alloc: Global, text: &[u8]) -> Result<Option<ITermFileData>, AllocError> {
     let mut parts = Vec::new(alloc);
     let mut rest = text;
@@ -172,7 +172,7 @@ fn parsed(alloc: Global, text: &[u8]) -> Result<Option<ITermFileData>, AllocErro
     ITermFileData::parse(alloc, &parts)
 }
 
-// The name of a file, which may be empty.
+// Returns the name of a file, which may be empty.
 fn name_of(alloc: Global, file: &ITermFileData) -> Result<String, AllocError> {
     match &file.name {
         Some(name) => fallible_alloc::text(alloc, name.as_str()),

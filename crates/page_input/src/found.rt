@@ -52,8 +52,8 @@ enum Begun {
     More,
 }
 
-/// The part that bytes of a stream in this encoding begin with; nothing may follow them. So many
-/// bytes of a command were searched for its end already: before these bytes it does not end.
+/// Returns the part that bytes of a stream in this encoding begin with; nothing may follow them. So
+/// many bytes of a command were searched for its end already: before these bytes it does not end.
 pub(crate) fn found_in(
     bytes: &[u8],
     encoding: Encoding,
@@ -88,7 +88,7 @@ pub(crate) fn found_in(
     (text_or(bytes.len(), Found::More), 0)
 }
 
-// So many bytes of text, or if there are none, this.
+// Returns so many bytes of text, or if there are none, this.
 fn text_or(length: usize, other: Found) -> Found {
     if length == 0 {
         other
@@ -97,7 +97,7 @@ fn text_or(length: usize, other: Found) -> Found {
     }
 }
 
-// The string that begins after ESC and this letter.
+// Returns the string that begins after ESC and this letter.
 fn begun_by(letter: u8, text: &[u8]) -> Begun {
     match letter {
         b']' if begins_file(text) => Begun::Command(Kind::File),
@@ -119,7 +119,7 @@ fn begun_by(letter: u8, text: &[u8]) -> Begun {
     }
 }
 
-// A command of this kind, from this place on, if its end is there.
+// Returns a command of this kind, from this place on, if its end is there.
 fn command_in(
     bytes: &[u8],
     kind: Kind,
@@ -157,7 +157,7 @@ fn command_in(
     }
 }
 
-// The length of the end of a command that comes first; or 0.
+// Returns the length of the end of a command that comes first; or 0.
 fn end_length(bytes: &[u8], kind: Kind, encoding: Encoding) -> usize {
     match bytes.first() {
         Some(byte) if *byte == BEL && kind == Kind::File => 1,
@@ -165,8 +165,8 @@ fn end_length(bytes: &[u8], kind: Kind, encoding: Encoding) -> usize {
     }
 }
 
-// The first place, from this one on, of a byte that is no part of a command of this kind: a control
-// or a byte past ASCII; sixels may have controls that break nothing off.
+// Returns the first place, from this one on, of a byte that is no part of a command of this kind: a
+// control or a byte past ASCII; sixels may have controls that break nothing off.
 fn end_of(bytes: &[u8], kind: Kind, from: usize) -> usize {
     let from = from.min(bytes.len());
     let mut at = from;
@@ -183,8 +183,8 @@ fn end_of(bytes: &[u8], kind: Kind, from: usize) -> usize {
     at
 }
 
-/// Whether a command of this kind with this beginning shows an image, if one of this kind is
-/// unfinished or not.
+/// Returns whether a command of this kind with this beginning shows an image, if one of this kind
+/// is unfinished or not.
 pub(crate) fn shows(kind: Kind, text: &[u8], is_unfinished: bool) -> bool {
     match kind {
         Kind::File => shows_file(text, is_unfinished),

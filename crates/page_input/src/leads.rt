@@ -22,7 +22,8 @@ pub(crate) enum Lead {
     More,
 }
 
-/// The part that bytes of a stream in this encoding begin with, at the beginning of a character.
+/// Returns the part that bytes of a stream in this encoding begin with, at the beginning of a
+/// character.
 pub(crate) fn lead_of(bytes: &[u8], encoding: Encoding) -> Lead {
     match bytes {
         [] | [ESC] => Lead::More,
@@ -36,7 +37,8 @@ pub(crate) fn lead_of(bytes: &[u8], encoding: Encoding) -> Lead {
     }
 }
 
-// The same for bytes, the first of which is not ASCII, and may be a control or the first of one.
+// Does the same for bytes, the first of which is not ASCII, and may be a control or the first of
+// one.
 fn lead_past_ascii(bytes: &[u8], encoding: Encoding) -> Lead {
     let in_utf8 = matches!(encoding, Encoding::Utf8 | Encoding::EightBit);
     match bytes {
@@ -48,7 +50,7 @@ fn lead_past_ascii(bytes: &[u8], encoding: Encoding) -> Lead {
     }
 }
 
-// The character that begins with this byte, before these; or the part of it that is there.
+// Returns the character that begins with this byte, before these; or the part of it that is there.
 fn character(first: u8, rest: &[u8]) -> Lead {
     let most = match first {
         0..=0xdf => 1,
@@ -69,7 +71,7 @@ fn character(first: u8, rest: &[u8]) -> Lead {
     }
 }
 
-// The place of the first byte that may begin a sequence or a string.
+// Returns the place of the first byte that may begin a sequence or a string.
 fn first_candidate(bytes: &[u8], encoding: Encoding) -> Option<usize> {
     match encoding {
         Encoding::Utf8 => memchr2(ESC, LEAD, bytes),
@@ -80,7 +82,7 @@ fn first_candidate(bytes: &[u8], encoding: Encoding) -> Option<usize> {
     }
 }
 
-// The place of the first byte that is ESC or no ASCII.
+// Returns the place of the first byte that is ESC or no ASCII.
 fn first_of_any(bytes: &[u8]) -> Option<usize> {
     for (at, byte) in bytes.iter().enumerate() {
         if *byte == ESC || 0x80 <= *byte {
@@ -90,8 +92,8 @@ fn first_of_any(bytes: &[u8]) -> Option<usize> {
     None
 }
 
-/// The number of bytes of the string terminator that comes first in a stream in this encoding, or 0
-/// if none does.
+/// Returns the number of bytes of the string terminator that comes first in a stream in this
+/// encoding, or 0 if none does.
 pub(crate) fn terminator_length(bytes: &[u8], encoding: Encoding) -> usize {
     match lead_of(bytes, encoding) {
         Lead::Control(b'\\', length) => length,
@@ -109,7 +111,7 @@ pub(crate) struct Sieve {
 }
 
 impl Sieve {
-    /// At the beginning of a stream in this encoding.
+    /// Returns the state at the beginning of a stream in this encoding.
     pub fn new(encoding: Encoding) -> Sieve {
         Sieve {
             encoding,
@@ -126,7 +128,7 @@ impl Sieve {
         }
     }
 
-    /// The byte that the next byte becomes.
+    /// Returns the byte that the next byte becomes.
     pub fn take(&mut self, byte: u8) -> u8 {
         let follows = self.follows;
         let masked = self.mask.take(byte);
@@ -145,12 +147,12 @@ impl Sieve {
     }
 }
 
-// Whether a byte is a control of C1.
+// Returns whether a byte is a control of C1.
 fn is_c1(byte: u8) -> bool {
     0x80 <= byte && byte <= 0x9f
 }
 
-// The byte that means the same after ESC (ECMA-35, 13.2.1).
+// Returns the byte that means the same after ESC (ECMA-35, 13.2.1).
 fn letter_of(control: u8) -> u8 {
     control.saturating_sub(0x40)
 }

@@ -9,10 +9,10 @@ use esc_frame::{VTActor, VTParser};
 use esc_values::CsiParam;
 use std::alloc::{AllocError, Global};
 
-// How many bytes of a word are kept that may be an address.
+// Says how many bytes of a word are kept that may be an address.
 const MOST: usize = 4096;
 
-// How many bytes of a command are kept, to see whether it is one for a link.
+// Says how many bytes of a command are kept, to see whether it is one for a link.
 const LIMIT: usize = 4096;
 
 /// Makes of a stream one with links around addresses, a part at a time.
@@ -27,7 +27,7 @@ pub(crate) struct Linker {
 }
 
 impl Linker {
-    /// A linker of a stream in this encoding, at its beginning. Takes no memory.
+    /// Returns a linker of a stream in this encoding, at its beginning. Takes no memory.
     pub fn new(alloc: Global, encoding: Encoding) -> Linker
         ensures { weight result ≡ 0 }
     {
@@ -170,8 +170,8 @@ fn push_link(made: &mut Vec<u8>, address: &[u8]) -> Result<(), AllocError>
     fallible_alloc::extend(made, b"\x1b]8;;\x1b\\")
 }
 
-// The beginning of the bytes at the end of a text that may be in an address, from the first letter
-// on that its scheme may begin with.
+// Returns the beginning of the bytes at the end of a text that may be in an address, from the first
+// letter on that its scheme may begin with.
 fn word_start(text: &[u8]) -> usize
     ensures { result ≤ length text.now }
 {
@@ -216,7 +216,7 @@ impl Segments {
     }
 }
 
-// Whether a link of the stream is open.
+// Says whether a link of the stream is open.
 #[derive(Drop)]
 struct Links {
     is_on: bool,

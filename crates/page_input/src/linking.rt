@@ -9,7 +9,7 @@ use std::alloc::Global;
 use std::io;
 use std::io::{ErrorKind, Read};
 
-// How many bytes are read at once.
+// Says how many bytes are read at once.
 const BYTES: usize = 8192;
 
 /// Reads the stream of another reader, with the commands that begin and end a link (OSC 8) around
@@ -32,8 +32,8 @@ pub struct Linking<R> {
 }
 
 impl<R: Read> Linking<R> {
-    /// A reader of the stream of this one, in this encoding, from its beginning; with links, or
-    /// not. Takes no memory.
+    /// Returns a reader of the stream of this one, in this encoding, from its beginning; with
+    /// links, or not. Takes no memory.
     pub fn new(alloc: Global, encoding: Encoding, is_on: bool, inner: R) -> Linking<R>
         ensures nothing { owed result ≡ 0 }
         ensures reader { result.inner ≡ inner }

@@ -4,7 +4,7 @@ use crate::titles::title_of;
 use memchr::memchr;
 use std::alloc::{AllocError, Global};
 
-// How long the time is at most that comes before a mark.
+// Says how long the time is at most that comes before a mark.
 const LONGEST_TIME: usize = 40;
 
 /// The beginning or the end of a group of lines.
@@ -14,7 +14,7 @@ pub enum Mark {
     Begin {
         /// Its title, as text.
         title: String,
-        /// Whether it is closed at first.
+        /// Says whether it is closed at first.
         is_closed: bool,
     },
     /// The last one that began ends.
@@ -30,19 +30,19 @@ enum Found<'a> {
     End,
 }
 
-/// The number of bytes of a line that are a mark, if it begins with one: all but the text after the
-/// mark of GitLab that ends a section, or begins one and has a mark after it.
+/// Returns the number of bytes of a line that are a mark, if it begins with one: all but the text
+/// after the mark of GitLab that ends a section, or begins one and has a mark after it.
 pub(crate) fn mark_length(line: &[u8]) -> Option<usize> {
     let (_, rest) = read_mark(line)?;
     Some(line.len().saturating_sub(rest.len()).max(1))
 }
 
-/// Whether the mark that a line begins with ends a group.
+/// Returns whether the mark that a line begins with ends a group.
 pub(crate) fn is_end(line: &[u8]) -> bool {
     matches!(read_mark(line), Some((Found::End, _)))
 }
 
-/// The mark that a line begins with. The error is that memory was refused.
+/// Returns the mark that a line begins with. The error is that memory was refused.
 pub(crate) fn mark_of(alloc: Global, line: &[u8]) -> Result<Mark, AllocError> {
     let Some((Found::Begin(title, name, is_closed), _)) = read_mark(line) else {
         return Ok(Mark::End);
@@ -57,7 +57,7 @@ pub(crate) fn mark_of(alloc: Global, line: &[u8]) -> Result<Mark, AllocError> {
     })
 }
 
-// The mark that a line begins with, and the rest.
+// Returns the mark that a line begins with, and the rest.
 fn read_mark(line: &[u8]) -> Option<(Found<'_>, &[u8])> {
     match after_time(line) {
         [b'#', b'#', b'[', rest @ ..] => workflow(rest, b"group]", b"endgroup]"),
@@ -67,7 +67,8 @@ fn read_mark(line: &[u8]) -> Option<(Found<'_>, &[u8])> {
     }
 }
 
-// The rest after the time that a line begins with, as GitHub writes it: digits, `-`, `T`, `:` and
+// Returns the rest after the time that a line begins with, as GitHub writes it: digits, `-`, `T`,
+// `:` and
 // `.`, `Z` and a space.
 fn after_time(line: &[u8]) -> &[u8] {
     let mut rest = line;
@@ -84,7 +85,7 @@ fn after_time(line: &[u8]) -> &[u8] {
     line
 }
 
-// The rest after the space, if the time has a digit first.
+// Returns the rest after the space, if the time has a digit first.
 fn after_zone<'a>(line: &'a [u8], rest: &'a [u8]) -> &'a [u8] {
     match (line, rest) {
         ([b'0'..=b'9', ..], [b' ', rest @ ..]) => rest,
@@ -92,7 +93,7 @@ fn after_zone<'a>(line: &'a [u8], rest: &'a [u8]) -> &'a [u8] {
     }
 }
 
-// The mark of GitHub with this text after its beginning.
+// Returns the mark of GitHub with this text after its beginning.
 fn workflow<'a>(
     text: &'a [u8],
     begin: &'static [u8],
@@ -105,8 +106,8 @@ fn workflow<'a>(
     Some((Found::End, b""))
 }
 
-// The mark of GitLab: `section_start:TIME:NAME`, or `section_end`, maybe with options in square
-// brackets, a carriage return and `ESC [0K`; and the title, up to the end of the line.
+// Returns the mark of GitLab: `section_start:TIME:NAME`, or `section_end`, maybe with options in
+// square brackets, a carriage return and `ESC [0K`; and the title, up to the end of the line.
 fn section(line: &[u8]) -> Option<(Found<'_>, &[u8])> {
     let text = after_erasing(line);
     if let Some(rest) = after(text, b"section_start:") {
@@ -120,13 +121,13 @@ fn section(line: &[u8]) -> Option<(Found<'_>, &[u8])> {
     Some((Found::End, without_end(rest)))
 }
 
-// Whether such a mark comes.
+// Returns whether such a mark comes.
 fn is_section(line: &[u8]) -> bool {
     let text = after_erasing(line);
     after(text, b"section_start:").is_some() || after(text, b"section_end:").is_some()
 }
 
-// The rest after the name of a section, and whether it is closed at first.
+// Returns the rest after the name of a section, and whether it is closed at first.
 fn named(text: &[u8]) -> Option<(&[u8], bool, &[u8])> {
     let colon = memchr(b':', text)?;
     let (time, rest) = text.split_at(colon.min(text.len()));
@@ -146,7 +147,7 @@ fn named(text: &[u8]) -> Option<(&[u8], bool, &[u8])> {
     ))
 }
 
-// The rest after sequences that erase the line, `ESC [0K`.
+// Returns the rest after sequences that erase the line, `ESC [0K`.
 fn after_erasing(text: &[u8]) -> &[u8] {
     let mut rest = text;
     while let [0x1b, b'[', b'0', b'K', more @ ..] = rest {
@@ -155,7 +156,7 @@ fn after_erasing(text: &[u8]) -> &[u8] {
     rest
 }
 
-// The rest after this in a text.
+// Returns the rest after this in a text.
 fn after<'a>(text: &'a [u8], start: &'static [u8]) -> Option<&'a [u8]> {
     if text.starts_with(start) {
         text.get(start.len()..)
@@ -164,7 +165,7 @@ fn after<'a>(text: &'a [u8], start: &'static [u8]) -> Option<&'a [u8]> {
     }
 }
 
-// The rest after the end of a line that a text begins with, or the text.
+// Returns the rest after the end of a line that a text begins with, or the text.
 fn without_end(text: &[u8]) -> &[u8] {
     match text {
         [b'\r', b'\n', rest @ ..] | [b'\n', rest @ ..] => rest,

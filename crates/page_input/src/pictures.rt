@@ -11,10 +11,10 @@ use std::alloc::{AllocError, Global};
 use std::io;
 use std::io::Read;
 
-// How many bytes are read at once.
+// Says how many bytes are read at once.
 const BYTES: usize = 8192;
 
-/// How many images of a stream are left out.
+/// Says how many images of a stream are left out.
 #[derive(Clone, Copy)]
 pub struct LeftOut {
     /// Those with more bytes than the limit.
@@ -26,7 +26,7 @@ pub struct LeftOut {
 }
 
 impl LeftOut {
-    /// None.
+    /// Returns counts of no image.
     pub fn new() -> LeftOut {
         LeftOut {
             large: 0,
@@ -35,7 +35,7 @@ impl LeftOut {
         }
     }
 
-    /// These, and those of another part of the stream.
+    /// Returns the sums of these, and of those of another part of the stream.
     pub fn and(self, more: LeftOut) -> LeftOut {
         LeftOut {
             large: self.large.saturating_add(more.large),
@@ -77,8 +77,8 @@ pub struct Pictures<R> {
 }
 
 impl<R: Read> Pictures<R> {
-    /// A reader of the stream of this one, in this encoding, from its beginning; up to each image,
-    /// or not. Takes no memory.
+    /// Returns a reader of the stream of this one, in this encoding, from its beginning; up to each
+    /// image, or not. Takes no memory.
     pub fn new(
         alloc: Global,
         encoding: Encoding,
@@ -115,18 +115,18 @@ impl<R: Read> Pictures<R> {
         Ok(picture)
     }
 
-    /// Whether text comes next.
+    /// Returns whether text comes next.
     pub fn has_text(&mut self) -> io::Result<bool> {
         self.prepare()?;
         Ok(self.ready.is_none() && 0 < self.plain)
     }
 
-    /// How many images were left out so far.
+    /// Returns how many images were left out so far.
     pub fn left_out(&self) -> LeftOut {
         self.left_out
     }
 
-    // The next text begins with the renditions that hold.
+    // Begins the next text with the renditions that hold.
     fn carry_on(&mut self) -> Result<(), AllocError> {
         let text = self.carried.text(self.alloc)?;
         let mut kept = fallible_alloc::copied(self.alloc, text.as_bytes())?;
@@ -184,7 +184,7 @@ impl<R: Read> Pictures<R> {
         Ok(())
     }
 
-    // The command of this kind that lies from one place to another.
+    // Returns the command of this kind that lies from one place to another.
     fn command(&mut self, kind: Kind, from: usize, to: usize) -> Result<Command, AllocError> {
         match kind {
             Kind::File => {
@@ -240,13 +240,13 @@ impl<R: Read> Pictures<R> {
         }
     }
 
-    // The bytes that were read and not handed out.
+    // Returns the bytes that were read and not handed out.
     fn rest(&self) -> &[u8] {
         let at = self.at.min(self.kept.len());
         &self.kept.as_slice()[at..]
     }
 
-    // The bytes of it from one place to another.
+    // Returns the bytes of it from one place to another.
     fn between(&self, from: usize, to: usize) -> &[u8] {
         self.rest().get(from..to).unwrap_or(b"")
     }

@@ -7,13 +7,13 @@ use std::alloc::{AllocError, Global};
 use std::io;
 use std::io::Read;
 
-// How many bytes are read at once.
+// Says how many bytes are read at once.
 const BYTES: usize = 8192;
 
-// How many bytes of a line are looked at, to see whether it is a mark.
+// Says how many bytes of a line are looked at, to see whether it is a mark.
 const LINE: usize = 4096;
 
-/// How many groups may be one in another: a mark that begins one more is text.
+/// Says how many groups may be one in another: a mark that begins one more is text.
 pub const MOST_DEPTH: usize = 16;
 
 // The next part.
@@ -43,14 +43,14 @@ pub struct Sections<R> {
     kept: Vec<u8>,
     at: usize,
     has_ended: bool,
-    // whether a line begins there
+    // says whether a line begins there
     begins_line: bool,
     depth: usize,
 }
 
 impl<R: Read> Sections<R> {
-    /// A reader of the stream of this one, from its beginning; group after group, or not. Takes no
-    /// memory.
+    /// Returns a reader of the stream of this one, from its beginning; group after group, or not.
+    /// Takes no memory.
     pub fn new(alloc: Global, is_on: bool, inner: R) -> Sections<R> {
         Sections {
             inner,
@@ -64,7 +64,7 @@ impl<R: Read> Sections<R> {
         }
     }
 
-    /// How many groups are open.
+    /// Returns how many groups are open.
     pub fn depth(&self) -> usize {
         self.depth
     }
@@ -74,7 +74,7 @@ impl<R: Read> Sections<R> {
         self.inner
     }
 
-    /// Whether text comes next.
+    /// Returns whether text comes next.
     pub fn has_text(&mut self) -> io::Result<bool> {
         match self.next()? {
             Next::Text(_, _) => Ok(true),
@@ -111,24 +111,24 @@ impl<R: Read> Sections<R> {
         Ok(count)
     }
 
-    // Whether a whole line was read.
+    // Returns whether a whole line was read.
     fn has_line(&self) -> bool {
         memchr(b'\n', self.rest()).is_some()
     }
 
-    // The bytes that were read and not handed out.
+    // Returns the bytes that were read and not handed out.
     fn rest(&self) -> &[u8] {
         let at = self.at.min(self.kept.len());
         &self.kept.as_slice()[at..]
     }
 
-    // The first bytes of it, at most so many.
+    // Returns the first bytes of it, at most so many.
     fn first(&self, length: usize) -> &[u8] {
         let rest = self.rest();
         &rest[..length.min(rest.len())]
     }
 
-    // The next part.
+    // Returns the next part.
     fn next(&mut self) -> io::Result<Next> {
         for _ in 0..u64::MAX {
             let rest = self.rest();
@@ -144,7 +144,7 @@ impl<R: Read> Sections<R> {
         Ok(Next::End)
     }
 
-    // The kind of these bytes, if their first line has this end.
+    // Returns the kind of these bytes, if their first line has this end.
     fn next_of(&self, bytes: &[u8], end: Option<usize>) -> Next {
         let length = match end {
             Some(end) => end.saturating_add(1).min(bytes.len()),
@@ -160,7 +160,7 @@ impl<R: Read> Sections<R> {
         }
     }
 
-    // Whether the mark of this line may be one here.
+    // Returns whether the mark of this line may be one here.
     fn may_mark(&self, line: &[u8]) -> bool {
         if is_end(line) {
             0 < self.depth
@@ -216,7 +216,7 @@ impl<R: Read> Read for Sections<R> {
         Ok(count.min(buf.len()))
     }
 }
-// Whether a line feed ends it.
+// Returns whether a line feed ends it.
 fn ends_line(line: &[u8]) -> bool {
     matches!(line, [.., b'\n'])
 }

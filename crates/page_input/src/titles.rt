@@ -4,8 +4,8 @@ use esc_frame::{VTActor, VTParser};
 use esc_values::CsiParam;
 use std::alloc::{AllocError, Global};
 
-/// The characters of a text, without those for which terminals show nothing. The error is that
-/// memory was refused.
+/// Returns the characters of a text, without those for which terminals show nothing. The error is
+/// that memory was refused.
 pub(crate) fn title_of(alloc: Global, text: &[u8]) -> Result<String, AllocError> {
     let mut framer = VTParser::with_limit(alloc, 0);
     let mut title = Title {

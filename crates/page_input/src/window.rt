@@ -11,7 +11,7 @@ use std::alloc::{AllocError, Global};
 use std::io::{ErrorKind, Read};
 use std::{io, mem};
 
-// How many bytes are read at once.
+// Says how many bytes are read at once.
 const BYTES: usize = 8192;
 
 // The least number of bytes that are kept before those are let go that are no part of the last
@@ -28,23 +28,23 @@ pub struct Cut {
 }
 
 impl Cut {
-    /// Whether not all of them are.
+    /// Returns whether not all of them are.
     pub fn is_some(self) -> bool {
         self.head.is_some() || self.tail.is_some()
     }
 }
 
-/// How many lines some text has.
+/// Says how many lines some text has.
 #[derive(Clone, Copy)]
 struct Count {
     // those that a line feed ended
     ended: u64,
-    // whether more came after the last line feed
+    // says whether more came after the last line feed
     is_open: bool,
 }
 
 impl Count {
-    // The count of no text.
+    // Returns the count of no text.
     fn new() -> Count {
         Count {
             ended: 0,
@@ -52,7 +52,7 @@ impl Count {
         }
     }
 
-    // With more text.
+    // Returns the count with more text.
     fn and(self, bytes: &[u8]) -> Count
         ensures ended { result.ended ≡ min (self.ended + feeds bytes.now) (2 ^ 64 - 1) }
         ensures open { result.is_open ≡ open_after self.is_open bytes.now }
@@ -85,14 +85,14 @@ pub struct Window<R> {
     // the last lines so far, and the number of bytes that there may be before some are let go
     kept: Vec<u8>,
     most: usize,
-    // how many bytes of them were handed out
+    // says how many bytes of them were handed out
     at: usize,
     // why no more can be read
     fault: Option<io::Error>,
 }
 
 impl<R: Read> Window<R> {
-    /// A reader of these lines of the stream of `inner`, in this encoding. Takes no memory.
+    /// Returns a reader of these lines of the stream of `inner`, in this encoding. Takes no memory.
     pub fn new(alloc: Global, encoding: Encoding, cut: Cut, inner: R) -> Window<R> {
         Window {
             inner,
@@ -122,12 +122,12 @@ impl<R: Read> Window<R> {
         }
     }
 
-    /// The other reader.
+    /// Returns the other reader.
     pub fn inner(&self) -> &R {
         &self.inner
     }
 
-    /// How many lines were left out before those that are read.
+    /// Returns how many lines were left out before those that are read.
     pub fn before(&self) -> u64 {
         self.before.lines()
     }
@@ -267,7 +267,7 @@ fn read_some<R: Read>(reader: &mut R, buf: &mut [u8]) -> io::Result<usize>
     Err(io::Error::from(ErrorKind::TimedOut))
 }
 
-// How many line feeds there are.
+// Returns how many line feeds there are.
 fn count_feeds(bytes: &[u8]) -> u64
     ensures { result ≡ feeds bytes.now }
 {
@@ -280,7 +280,7 @@ fn count_feeds(bytes: &[u8]) -> u64
     count
 }
 
-// Whether bytes come after the last line feed, if before these some do or not.
+// Returns whether bytes come after the last line feed, if before these some do or not.
 fn is_open_after(is_open: bool, bytes: &[u8]) -> bool
     ensures { result ≡ open_after is_open bytes.now }
 {
@@ -291,7 +291,7 @@ fn is_open_after(is_open: bool, bytes: &[u8]) -> bool
     }
 }
 
-// The number of bytes of the first lines, so many.
+// Returns the number of bytes of the first lines, so many.
 fn length_of_first(bytes: &[u8], lines: u64) -> usize
     ensures within { result ≤ length bytes.now }
     ensures first { take result bytes.now ≡ first_lines lines bytes.now }
@@ -308,7 +308,7 @@ fn length_of_first(bytes: &[u8], lines: u64) -> usize
     end
 }
 
-// The beginning of the last lines, of which there are so many.
+// Returns the beginning of the last lines, so many.
 fn start_of_last(bytes: &[u8], lines: u64) -> usize {
     let mut left = lines;
     let mut rest = match bytes {

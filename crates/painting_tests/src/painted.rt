@@ -45,7 +45,7 @@ fn same_content(a: Content, b: Content) -> bool {
     }
 }
 
-// The look of a cell as it is seen: a blank one shows its background.
+// Returns the look of a cell as it is seen: a blank one shows its background.
 fn seen(styles: &Styles, cell: &Cell) -> Look {
     let look = styles.look_at(cell.look);
     match cell.content {
@@ -58,7 +58,7 @@ fn seen(styles: &Styles, cell: &Cell) -> Look {
     }
 }
 
-// Whether two terminals show the same.
+// Returns whether two terminals show the same.
 fn shows_same(a: &Terminal, b: &Terminal) -> bool {
     let (Some(screen), Some(other)) = (a.screen(), b.screen()) else {
         return false;
@@ -79,7 +79,8 @@ fn shows_same(a: &Terminal, b: &Terminal) -> bool {
     from.row == to.row && from.column == to.column && from.pending == to.pending
 }
 
-// Whether a stream's screen is painted so that a new terminal shows it, and one that showed others.
+// Returns whether a stream's screen is painted so that a new terminal shows it, and one that showed
+// others.
 fn is_painted(alloc: Global, stream: &[u8]) -> Result<bool, AllocError> {
     let terminal = fed(alloc, &[stream])?;
     let text = text_of(alloc, &terminal)?;

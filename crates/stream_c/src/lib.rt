@@ -51,8 +51,8 @@ pub extern "C" fn escape_stream_next(
     next(parser, buffer, bytes, event)
 }
 
-/// Whether no character, sequence or string of the stream so far is unfinished. After a failure it
-/// is false.
+/// Returns whether no character, sequence or string of the stream so far is unfinished. After a
+/// failure it is false.
 #[unsafe(no_mangle)]
 pub extern "C" fn escape_stream_is_ground(parser: &EscParser) -> bool
     ensures ground { (s : List ℕ) (es : List Event) (memory : List ℕ)

@@ -40,8 +40,8 @@ fn append<A: Allocator + Copy>(list: &mut Vec<Action<A>, A>, c: char) -> bool {
     action.append_to(list).is_ok()
 }
 
-// Whether the letters give this list, or, if a request is refused, one of them comes back and the
-// others give the shorter one.
+// Returns whether the letters give this list, or, if a request is refused, one of them comes back
+// and the others give the shorter one.
 fn is_list(alloc: Global, heap: &Refusing<Global>, row: &(&str, &str, &str)) -> bool {
     let (letters, whole, shorter) = *row;
     let mut list = Vec::new(heap);
@@ -60,8 +60,8 @@ fn append_all<A: Allocator + Copy>(list: &mut Vec<Action<A>, A>, letters: &str) 
     refused
 }
 
-/// Whether an action is appended, or comes back: the growth of a string that is there is refused
-/// too.
+/// Returns whether an action is appended, or comes back: the growth of a string that is there is
+/// refused too.
 pub fn are_appended(alloc: Global) -> bool {
     let heap = Refusing::new(alloc);
     let mut is_right = true;

@@ -48,7 +48,7 @@ impl Asked {
         Asked::Verdict,
     ];
 
-    /// Whether it takes memory for this stream.
+    /// Returns whether it takes memory for this stream.
     pub fn grows(self, stream: &Stream) -> bool {
         let has_actions = stream.actions != "Ok([])";
         match self {
@@ -100,7 +100,7 @@ impl Asked {
         usize::from(is_error)
     }
 
-    // The result, as a text, if the request of this number is refused.
+    // Returns the result, as a text, if the request of this number is refused.
     fn result(
         self,
         alloc: Global,
@@ -122,7 +122,7 @@ impl Asked {
     }
 }
 
-// A text, if there was memory for it.
+// Returns a text, if there was memory for it.
 fn text_of(text: &Result<String, AllocError>) -> &str {
     match text {
         Ok(text) => text.as_str(),
@@ -130,10 +130,10 @@ fn text_of(text: &Result<String, AllocError>) -> &str {
     }
 }
 
-// How a list of actions begins, and a first action that has no data.
+// Says how a list of actions begins, and a first action that has no data.
 const WITHOUT_DATA: &str = "Ok([] Ok([Print( Ok([Control( Ok([Esc( Ok([CSI(";
 
-// Whether the first action of a list is that of a string, whose data takes memory.
+// Returns whether the first action of a list is that of a string, whose data takes memory.
 fn begins_with_a_string(actions: &str) -> bool {
     for begin in WITHOUT_DATA.split(' ') {
         if actions.starts_with(begin) {
@@ -143,7 +143,7 @@ fn begins_with_a_string(actions: &str) -> bool {
     true
 }
 
-// The Debug text of the call's result. A parser that was refused memory has failed.
+// Returns the Debug text of the call's result. A parser that was refused memory has failed.
 fn parsed<A: Allocator + Copy>(
     alloc: Global,
     heap: A,
@@ -155,7 +155,7 @@ fn parsed<A: Allocator + Copy>(
     checked(alloc, text, &mut parser)
 }
 
-// The text of a call, or that of a parser that goes on if the call was refused memory.
+// Returns the text of a call, or that of a parser that goes on if the call was refused memory.
 fn checked<A: Allocator + Copy>(
     alloc: Global,
     text: Result<String, AllocError>,
@@ -167,7 +167,7 @@ fn checked<A: Allocator + Copy>(
     text
 }
 
-// Whether each call of the parser says that it has failed.
+// Returns whether each call of the parser says that it has failed.
 fn has_failed<A: Allocator + Copy>(alloc: Global, parser: &mut Parser<A>) -> bool {
     let mut is_failed = true;
     for call in Call::ALL {
@@ -177,8 +177,8 @@ fn has_failed<A: Allocator + Copy>(alloc: Global, parser: &mut Parser<A>) -> boo
     is_failed
 }
 
-// The Debug text of the actions that a sink is given, or of the error. Before an error a prefix of
-// the stream's actions is given.
+// Returns the Debug text of the actions that a sink is given, or of the error. Before an error a
+// prefix of the stream's actions is given.
 fn given<A: Allocator + Copy>(
     alloc: Global,
     heap: A,
@@ -188,7 +188,8 @@ fn given<A: Allocator + Copy>(
     given_of(alloc, stream.actions, ending, sink.actions)
 }
 
-// The text of the actions that were given, of all that the stream has, or that of the error.
+// Returns the text of the actions that were given, of all that the stream has, or that of the
+// error.
 fn given_of<T: Debug + Drop>(
     alloc: Global,
     all: &str,
@@ -205,7 +206,7 @@ fn given_of<T: Debug + Drop>(
     }
 }
 
-// The text that `encode` writes for the stream's actions.
+// Returns the text that `encode` writes for the stream's actions.
 fn text<A: Allocator + Copy>(
     alloc: Global,
     heap: &Refusing<A>,
@@ -218,7 +219,7 @@ fn text<A: Allocator + Copy>(
     encoded(alloc, heap, actions)
 }
 
-/// The text that `normalise` writes, or the Debug text of the error.
+/// Returns the text that `normalise` writes, or the Debug text of the error.
 pub fn normalised<A: Allocator + Copy>(
     alloc: Global,
     heap: A,

@@ -1,4 +1,4 @@
-//! Which actions and lists are writable.
+//! This module says which actions and lists are writable.
 use crate::reading::Reading;
 use escape_stream::csi::Unspecified;
 use escape_stream::{
@@ -56,7 +56,7 @@ static MADE: [(Made, bool); 29] = [
     (Made::Nothing, false),
 ];
 
-// An image of one chunk of data, of this value.
+// Returns an image of one chunk of data, of this value.
 fn image<A: Allocator + Copy>(alloc: A, value: u8) -> Result<Action<A>, AllocError> {
     let content = Vec::from_slice(alloc, &[SixelData::Data(value)])?;
     let sixel = Sixel {
@@ -114,7 +114,8 @@ fn action_of<A: Allocator + Copy>(alloc: A, what: Made) -> Result<Action<A>, All
     }
 }
 
-// The first request that, refused, makes the answer another one. An error is no other answer.
+// Returns the first request that, refused, makes the answer another one. An error is no other
+// answer.
 fn wrong_request<'a>(
     heap: &'a Refusing<Global>,
     action: &Action<&'a Refusing<Global>>,
@@ -136,7 +137,7 @@ fn wrong_request<'a>(
     None
 }
 
-// The same for an action that was made; 0 if it could not be.
+// Does the same for an action that was made; 0 if it could not be.
 fn wrong_request_of<'a>(
     heap: &'a Refusing<Global>,
     made: &Result<Action<&'a Refusing<Global>>, AllocError>,
@@ -148,15 +149,15 @@ fn wrong_request_of<'a>(
     }
 }
 
-// The same for an action that is made now.
+// Does the same for an action that is made now.
 fn wrong_request_of_made(heap: &Refusing<Global>, what: Made, wanted: bool) -> Option<u64> {
     heap.refuse_at(0);
     let made = action_of(heap, what);
     wrong_request_of(heap, &made, wanted)
 }
 
-/// Whether each action is writable or not, as its row says. With each request for memory refused in
-/// turn, the answer is an error or stays the same.
+/// Returns whether each action is writable or not, as its row says. With each request for memory
+/// refused in turn, the answer is an error or stays the same.
 pub fn are_told(alloc: Global) -> bool {
     let heap = Refusing::new(alloc);
     let mut is_right = true;
@@ -189,12 +190,12 @@ static PARTS: [(&[u8], usize, usize, bool); 19] = [
     (b"a\x1b  [", 0, 2, false),
 ];
 
-// Some of the items, and none if there are fewer.
+// Returns some of the items, and none if there are fewer.
 fn part<T>(items: &[T], from: usize, to: usize) -> Option<&[T]> {
     items.get(from..to)
 }
 
-// Whether some of the actions of a stream are a writable list; none if there are too few.
+// Returns whether some of the actions of a stream are a writable list; none if there are too few.
 fn answer(alloc: Global, stream: &[u8], from: usize, to: usize) -> Option<bool> {
     match Reading::Whole.read(alloc, stream) {
         Ok(actions) => answer_of(alloc, part(&actions, from, to)),
@@ -202,12 +203,12 @@ fn answer(alloc: Global, stream: &[u8], from: usize, to: usize) -> Option<bool> 
     }
 }
 
-// Whether these are a writable list; none if there are none.
+// Returns whether these are a writable list; none if there are none.
 fn answer_of(alloc: Global, actions: Option<&[Action]>) -> Option<bool> {
     are_writable(alloc, actions?).ok()
 }
 
-/// Whether each list is writable or not, as its row says.
+/// Returns whether each list is writable or not, as its row says.
 pub fn are_lists_told(alloc: Global) -> bool {
     let mut is_right = true;
     for (stream, from, to, wanted) in &PARTS {

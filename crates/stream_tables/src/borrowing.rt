@@ -14,7 +14,7 @@ use std::fmt::Write;
 // The number of requests that are refused, one in each run. No row of a table asks for more.
 const REQUESTS: u64 = 24;
 
-// Whether these are the Debug texts of the borrowed actions of a stream.
+// Returns whether these are the Debug texts of the borrowed actions of a stream.
 fn is_shown(alloc: Global, bytes: &[u8], wanted: &str) -> bool {
     let mut shown = String::new(alloc);
     let mut is_written = true;
@@ -57,8 +57,8 @@ impl<A: Allocator + Copy> BorrowingSink<Action<A>> for Appending<A> {
     }
 }
 
-// That of the actions of a stream, appended from their borrowed place; and whether that ended
-// rightly: with an error only if a request was refused.
+// Returns that of the actions of a stream, appended from their borrowed place; and whether that
+// ended rightly: with an error only if a request was refused.
 fn appended(
     alloc: Global,
     heap: &Refusing<Global>,
@@ -73,7 +73,8 @@ fn appended(
     (shown(alloc, Ok::<_, ParseError>(sink.actions)), is_right)
 }
 
-// Whether the text of a list is this one, or, if it may end early, that of the first of its items.
+// Returns whether the text of a list is this one, or, if it may end early, that of the first of its
+// items.
 fn is_list(text: &str, whole: &str, ends_early: bool) -> bool {
     match text.strip_suffix("])") {
         Some(items) if ends_early => whole.starts_with(items),
@@ -81,8 +82,8 @@ fn is_list(text: &str, whole: &str, ends_early: bool) -> bool {
     }
 }
 
-// Whether the actions of a stream, appended from their borrowed place, are those of this text; or,
-// if a request was refused, the first of them.
+// Returns whether the actions of a stream, appended from their borrowed place, are those of this
+// text; or, if a request was refused, the first of them.
 fn are_appended(alloc: Global, heap: &Refusing<Global>, bytes: &[u8], meant: &str) -> bool {
     match &appended(alloc, heap, bytes) {
         (Ok(text), true) => is_list(text.as_str(), meant, heap.has_refused()),
@@ -90,7 +91,7 @@ fn are_appended(alloc: Global, heap: &Refusing<Global>, bytes: &[u8], meant: &st
     }
 }
 
-// The same with each request for memory refused in turn.
+// Does the same with each request for memory refused in turn.
 fn are_always_appended(alloc: Global, bytes: &[u8], meant: &str) -> bool {
     let heap = Refusing::new(alloc);
     let mut is_right = true;
@@ -101,8 +102,8 @@ fn are_always_appended(alloc: Global, bytes: &[u8], meant: &str) -> bool {
     is_right && !heap.has_refused()
 }
 
-/// Whether a stream has borrowed actions of these texts, which are its actions once they are
-/// appended.
+/// Returns whether a stream has borrowed actions of these texts, which are its actions once they
+/// are appended.
 pub fn are_borrowed(alloc: Global, bytes: &[u8], wanted: &str) -> bool {
     match shown(alloc, Reading::Whole.read(alloc, bytes)) {
         Ok(meant) => {

@@ -18,7 +18,7 @@ impl Call {
     /// All calls.
     pub const ALL: [Call; 3] = [Call::List, Call::First, Call::Prefix];
 
-    /// The Debug text of the call's result.
+    /// Returns the Debug text of the call's result.
     pub fn shown<A: Allocator + Copy>(
         self,
         alloc: Global,
@@ -32,7 +32,7 @@ impl Call {
         }
     }
 
-    /// Whether the call of these bytes says that the parser has failed.
+    /// Returns whether the call of these bytes says that the parser has failed.
     pub fn fails<A: Allocator + Copy>(
         self,
         alloc: Global,

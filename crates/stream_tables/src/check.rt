@@ -22,8 +22,8 @@ pub fn check_table(alloc: Global, table: &str, report: &mut Report) {
     }
 }
 
-// A row is a stream, or one that is filtered, the parts of a command, a named statement, calls of
-// one parser, streams of several lengths, or streams that are made from numbers.
+// Checks a row: a stream, or one that is filtered, the parts of a command, a named statement, calls
+// of one parser, streams of several lengths, or streams that are made from numbers.
 fn check_row(alloc: Global, row: &Row, report: &mut Report) {
     if row.has("as-text") {
         check_filtered(alloc, row, report)
@@ -44,7 +44,7 @@ fn check_row(alloc: Global, row: &Row, report: &mut Report) {
     }
 }
 
-// The command that the parts are, and its text.
+// Checks the command that the parts are, and its text.
 fn check_parts(alloc: Global, row: &Row, report: &mut Report) {
     let parts = row.bytes(alloc, "parts", report);
     let actions = row.actions(alloc, report);
@@ -58,7 +58,7 @@ fn check_parts(alloc: Global, row: &Row, report: &mut Report) {
     }
 }
 
-// The Debug text of a list of the command that these parts are, and its Display text.
+// Returns the Debug text of a list of the command that these parts are, and its Display text.
 fn command_of(alloc: Global, text: &[u8]) -> Result<String, AllocError> {
     match parts_of(alloc, text) {
         Ok(parts) => both(alloc, OperatingSystemCommand::parse(alloc, &parts)),

@@ -7,8 +7,8 @@ use std::alloc::Global;
 // More requests for memory than any of the streams makes.
 const MOST_REQUESTS: u64 = 1000;
 
-// Whether these are the events of the stream, byte by byte, and the parser is at ground before and
-// after.
+// Returns whether these are the events of the stream, byte by byte, and the parser is at ground
+// before and after.
 fn is_read_by_bytes(alloc: Global, stream: &[u8], events: &str) -> bool {
     let mut parser = VTParser::new(alloc);
     let mut recorder = Recorder::new(alloc);
@@ -19,8 +19,8 @@ fn is_read_by_bytes(alloc: Global, stream: &[u8], events: &str) -> bool {
     is_right & parser.is_ground() & recorder.has(events)
 }
 
-// Whether these are the events of the stream that comes whole. The first request for memory is
-// refused if it may take none.
+// Returns whether these are the events of the stream that comes whole. The first request for memory
+// is refused if it may take none.
 fn is_read_whole(alloc: Global, stream: &[u8], events: &str, takes_memory: bool) -> bool {
     let heap = Refusing::new(alloc);
     heap.refuse_at(u64::from(!takes_memory));
@@ -29,8 +29,8 @@ fn is_read_whole(alloc: Global, stream: &[u8], events: &str, takes_memory: bool)
     is_read & recorder.has(events) & !heap.has_refused()
 }
 
-// Whether these are the events of its segments, if the first request for memory is refused, then
-// the second one, and so on: all of them, or, if a refusal ends the reading, a prefix.
+// Returns whether these are the events of its segments, if the first request for memory is refused,
+// then the second one, and so on: all of them, or, if a refusal ends the reading, a prefix.
 fn is_read_by_segments(alloc: Global, stream: &[u8], events: &str) -> bool {
     let heap = Refusing::new(alloc);
     for at in 1..MOST_REQUESTS {
@@ -43,7 +43,7 @@ fn is_read_by_segments(alloc: Global, stream: &[u8], events: &str) -> bool {
     false
 }
 
-// Whether all of these events are read, or a prefix if memory is refused.
+// Returns whether all of these events are read, or a prefix if memory is refused.
 fn is_prefix_read(alloc: Global, heap: &Refusing<Global>, stream: &[u8], events: &str) -> bool {
     let mut recorder = Recorder::new(alloc);
     if is_read(heap, stream, &mut recorder) {
@@ -63,16 +63,16 @@ fn is_read(heap: &Refusing<Global>, stream: &[u8], recorder: &mut Recorder) -> b
     is_read
 }
 
-/// Whether these are the events of the stream, in whatever way it comes. It may take no memory as a
-/// whole if `takes_memory` is false.
+/// Returns whether these are the events of the stream, in whatever way it comes. It may take no
+/// memory as a whole if `takes_memory` is false.
 pub fn has_events(alloc: Global, stream: &[u8], events: &str, takes_memory: bool) -> bool {
     is_read_by_bytes(alloc, stream, events)
         && is_read_by_segments(alloc, stream, events)
         && is_read_whole(alloc, stream, events, takes_memory)
 }
 
-// Whether each call of a parser that is refused memory fails, nothing is recorded, and the parser
-// is not at ground then.
+// Returns whether each call of a parser that is refused memory fails, nothing is recorded, and the
+// parser is not at ground then.
 fn has_failed(alloc: Global, heap: &Refusing<Global>) -> bool {
     let mut parser = VTParser::new(heap);
     let mut recorder = Recorder::new(alloc);
@@ -82,7 +82,7 @@ fn has_failed(alloc: Global, heap: &Refusing<Global>) -> bool {
     is_right & !parser.is_ground() & recorder.has("")
 }
 
-/// Whether a parser that was refused memory is not at ground.
+/// Returns whether a parser that was refused memory is not at ground.
 pub fn is_failed(alloc: Global) -> bool {
     let heap = Refusing::new(alloc);
     heap.refuse_at(1);

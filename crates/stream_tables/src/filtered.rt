@@ -41,8 +41,8 @@ const WAYS: [(Way, &str); 6] = [
     (Way::Lines(Returns::Drop), "lines-dropped"),
 ];
 
-/// The text that each policy lets through of a stream, read whole and byte by byte, that it is
-/// flushed, and that a policy is asked once about each action; and the text that is written if a
+/// Checks the text that each policy lets through of a stream, read whole and byte by byte, that it
+/// is flushed, and that a policy is asked once about each action; and the text that is written if a
 /// read, a write or a request for memory fails, at each of them in turn.
 pub fn check_filtered(alloc: Global, row: &Row, report: &mut Report) {
     let bytes = row.bytes(alloc, "stream", report);
@@ -71,8 +71,8 @@ fn check_way(alloc: Global, row: &Row, named: (Way, &str), stream: &[u8], report
     report.expect(row.name, word, wanted.as_str(), by_bytes);
 }
 
-// The word before the text that a policy lets through: that of the one before it, if it has no
-// line.
+// Returns the word before the text that a policy lets through: that of the one before it, if it has
+// no line.
 fn word_of(row: &Row, policy: Policy) -> &'static str {
     match policy {
         Policy::All if row.has("as-all") => "as-all",
@@ -82,7 +82,7 @@ fn word_of(row: &Row, policy: Policy) -> &'static str {
     }
 }
 
-// The text that is written if something fails, and the questions to a policy.
+// Checks the text that is written if something fails, and the questions to a policy.
 fn check_faults(alloc: Global, name: &str, stream: &[u8], wanted: &str, report: &mut Report) {
     let is_read = are_read_faults(alloc, stream, wanted);
     report.note_unless(is_read, name, "a read that fails changes what is written");
@@ -113,7 +113,7 @@ fn byte_by_byte(stream: &[u8], fails_at: usize) -> ByteReader<'_> {
 }
 
 impl Way {
-    // The text that is written for a stream.
+    // Returns the text that is written for a stream.
     fn written<R: Read + Drop>(self, alloc: Global, reader: R) -> Result<String, AllocError> {
         match self {
             Way::Policy(policy) => filtered(alloc, reader, policy),
@@ -133,7 +133,7 @@ impl Way {
     }
 }
 
-// The text that this filter writes.
+// Returns the text that this filter writes.
 fn written_by<R: Read + Drop, F: StreamFilter<Global> + Drop>(
     alloc: Global,
     reader: R,
@@ -146,7 +146,7 @@ fn written_by<R: Read + Drop, F: StreamFilter<Global> + Drop>(
     written(alloc, ending, writer.into_inner())
 }
 
-// How a filter ends, and its writer then.
+// Says how a filter ends, and its writer then.
 fn run<A: Allocator + Copy, R: Read + Drop, W: Write + Drop>(
     heap: A,
     reader: R,
@@ -159,7 +159,7 @@ fn run<A: Allocator + Copy, R: Read + Drop, W: Write + Drop>(
     (ending, writer.into_inner())
 }
 
-// The actions of a stream that pass.
+// Returns the actions of a stream that pass.
 fn filtered<R: Read + Drop>(
     alloc: Global,
     reader: R,
@@ -169,7 +169,7 @@ fn filtered<R: Read + Drop>(
     written(alloc, ending, text)
 }
 
-// Whether a read that fails is an error, and the output is a prefix.
+// Returns whether a read that fails is an error, and the output is a prefix.
 fn are_read_faults(alloc: Global, stream: &[u8], wanted: &str) -> bool {
     let mut is_right = true;
     for at in 1..=stream.len().saturating_add(1) {
@@ -178,15 +178,15 @@ fn are_read_faults(alloc: Global, stream: &[u8], wanted: &str) -> bool {
     is_right
 }
 
-// The same for a read with this number.
+// Does the same for a read with this number.
 fn is_read_fault(alloc: Global, stream: &[u8], at: usize, wanted: &str) -> bool {
     let reader = byte_by_byte(stream, at);
     let (ending, text) = run(alloc, reader, Vec::new(alloc), Policy::All);
     (ending == Err(FilterError::Read)) & wanted.as_bytes().starts_with(&text)
 }
 
-// Whether a writer that fails, of one byte a call, is an error, and holds the bytes that it took
-// before.
+// Returns whether a writer that fails, of one byte a call, is an error, and holds the bytes that it
+// took before.
 fn are_write_faults(alloc: Global, stream: &[u8], wanted: &str) -> bool {
     let mut is_right = true;
     for at in 0..wanted.len().min(64) {
@@ -195,15 +195,15 @@ fn are_write_faults(alloc: Global, stream: &[u8], wanted: &str) -> bool {
     is_right
 }
 
-// The same for a write after this text.
+// Does the same for a write after this text.
 fn is_write_fault(alloc: Global, stream: &[u8], wanted: &[u8]) -> bool {
     let writer = FixedWriter::new(64, 1, wanted.len().saturating_add(1));
     let (ending, held) = run(alloc, stream, writer, Policy::All);
     (ending == Err(FilterError::Write)) & held.holds(wanted)
 }
 
-// Whether the text that a read adds is flushed before the next read, and the text that the end
-// adds. A longer text is not tried.
+// Returns whether the text that a read adds is flushed before the next read, and the text that the
+// end adds. A longer text is not tried.
 fn is_flushed(alloc: Global, stream: &[u8], wanted: &str) -> bool {
     let writer = FixedWriter::new(64, 64, 0);
     let (ending, held) = run(alloc, byte_by_byte(stream, 0), writer, Policy::All);
@@ -211,8 +211,8 @@ fn is_flushed(alloc: Global, stream: &[u8], wanted: &str) -> bool {
     (wanted.len() > 64) | (ending.is_ok() & is_each)
 }
 
-// Whether each request for memory that is refused is an error or changes nothing, and there are not
-// too many.
+// Returns whether each request for memory that is refused is an error or changes nothing, and there
+// are not too many.
 fn are_requests_right(alloc: Global, stream: &[u8], wanted: &str) -> bool {
     let heap = Refusing::new(alloc);
     for at in 1..MOST_REQUESTS {
@@ -225,7 +225,8 @@ fn are_requests_right(alloc: Global, stream: &[u8], wanted: &str) -> bool {
     false
 }
 
-// Whether a filter over this heap writes the text, or if it is refused memory a beginning of it.
+// Returns whether a filter over this heap writes the text, or if it is refused memory a beginning
+// of it.
 fn is_unchanged<A: Allocator + Copy>(alloc: Global, heap: A, stream: &[u8], wanted: &str) -> bool {
     let (ending, text) = run(heap, stream, Vec::new(alloc), Policy::All);
     if ending.is_ok() {

@@ -2,8 +2,8 @@
 use escape_stream::{ParseError, Parser};
 use std::alloc::Global;
 
-/// Whether `parse_first` takes each time the bytes up to the next that gives actions, and returns
-/// the first of them: the first that `parse_as_vec` returns for the same bytes.
+/// Returns whether `parse_first` takes each time the bytes up to the next that gives actions, and
+/// returns the first of them: the first that `parse_as_vec` returns for the same bytes.
 pub fn finds_firsts(alloc: Global, stream: &[u8]) -> bool {
     let mut parser = Parser::new(alloc);
     let mut other = Parser::new(alloc);
@@ -20,8 +20,8 @@ pub fn finds_firsts(alloc: Global, stream: &[u8]) -> bool {
     is_right && rest.is_empty()
 }
 
-// The number of bytes before the one that gives the first item; if there is none, one more than
-// there are.
+// Returns the number of bytes before the one that gives the first item; if there is none, one more
+// than there are.
 fn quiet_len<T>(first: &Result<Option<(T, usize)>, ParseError>) -> usize {
     match first {
         Ok(Some((_, taken))) => taken.saturating_sub(1),
@@ -29,8 +29,8 @@ fn quiet_len<T>(first: &Result<Option<(T, usize)>, ParseError>) -> usize {
     }
 }
 
-// Whether this is the first item of those that the last byte gives, and the bytes before it give
-// none.
+// Returns whether this is the first item of those that the last byte gives, and the bytes before it
+// give none.
 fn is_first<T: PartialEq + Drop>(
     first: Result<Option<(T, usize)>, ParseError>,
     none: Result<Vec<T>, ParseError>,
@@ -46,7 +46,7 @@ fn is_first<T: PartialEq + Drop>(
     }
 }
 
-// Whether the items begin with the one that was found, and are none if none was.
+// Returns whether the items begin with the one that was found, and are none if none was.
 fn begins<T: PartialEq>(items: &[T], first: &Result<Option<(T, usize)>, ParseError>) -> bool {
     match first {
         Ok(Some((first, _))) => match items.first() {

@@ -10,7 +10,7 @@ pub struct Gathered<T: Drop, A: Allocator> {
 }
 
 impl<T: Drop, A: Allocator> Gathered<T, A> {
-    /// Nothing yet.
+    /// Returns an empty list.
     pub fn new(alloc: A) -> Gathered<T, A> {
         Gathered {
             items: Vec::new(alloc),
@@ -55,7 +55,7 @@ impl<T: Drop, A: Allocator> Gathered<T, A> {
         }
     }
 
-    /// All items, or the first error.
+    /// Returns all items, or the first error.
     pub fn ended(self) -> Result<Vec<T, A>, ParseError> {
         match self.error {
             None => Ok(self.items),
@@ -76,7 +76,7 @@ impl<T: Drop, A: Allocator> Gathered<T, A> {
     }
 }
 
-/// Whether two calls return the same items.
+/// Returns whether two calls return the same items.
 pub fn is_same<T: PartialEq + Drop, A: Allocator>(
     one: Result<Vec<T, A>, ParseError>,
     other: Result<Vec<T, A>, ParseError>,

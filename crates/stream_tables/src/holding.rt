@@ -28,7 +28,7 @@ pub fn check_holding(alloc: Global, row: &Row, report: &mut Report) {
     report.note_unless(is_right, row.name, "it does not hold");
 }
 
-// Whether the statement of this name holds, for an input and its result, if there is one.
+// Returns whether the statement of this name holds, for an input and its result, if there is one.
 fn does_hold(alloc: Global, name: &str, input: &[u8], gives: &str) -> bool {
     match name {
         "events" => has_events(alloc, input, gives, true),
@@ -39,7 +39,7 @@ fn does_hold(alloc: Global, name: &str, input: &[u8], gives: &str) -> bool {
     }
 }
 
-// The same for a statement that takes no input.
+// Does the same for a statement that takes no input.
 fn does_hold_alone(alloc: Global, name: &str) -> bool {
     match name {
         "failed" => is_failed(alloc),
@@ -60,7 +60,7 @@ fn does_hold_alone(alloc: Global, name: &str) -> bool {
     }
 }
 
-// The same for calls through `Watched`.
+// Does the same for calls through `Watched`.
 fn is_passed_on(alloc: Global, name: &str) -> bool {
     match name {
         "watched-reader" => is_reader_passed_on(),

@@ -8,7 +8,7 @@ use crate::texts::encoded;
 use escape_stream::Parser;
 use std::alloc::{AllocError, Global};
 
-/// Every stream of the family is read by every call, and written as it came.
+/// Checks that every stream of the family is read by every call, and written as it came.
 pub fn check_lengths(alloc: Global, row: &Row, report: &mut Report) {
     let numbers = row.text(alloc, "times", report);
     for word in numbers.split(' ') {
@@ -20,7 +20,7 @@ pub fn check_lengths(alloc: Global, row: &Row, report: &mut Report) {
     }
 }
 
-// The stream of a row that has its chunk so many times, or this number in its place.
+// Returns the stream of a row that has its chunk so many times, or this number in its place.
 fn stream_of(alloc: Global, row: &Row, number: usize, report: &mut Report) -> String {
     let mut stream = row.text(alloc, "begins", report);
     let input_chunk = row.text(alloc, "piece", report);
@@ -44,7 +44,7 @@ fn add_times(stream: &mut String, input_chunk: &str, times: usize) -> Result<(),
     Ok(())
 }
 
-// The numbers that a word names: `a..b`, the last of which is left out, or one.
+// Returns the numbers that a word names: `a..b`, the last of which is left out, or one.
 fn range(row: &str, word: &str, report: &mut Report) -> (usize, usize) {
     match word.split_once("..") {
         Some((from, to)) => (report.number_of(row, from), report.number_of(row, to)),
@@ -77,7 +77,7 @@ fn check_text(alloc: Global, name: &str, stream: &str, report: &mut Report) {
     }
 }
 
-// Whether this call of a new parser returns an action if there are bytes.
+// Returns whether this call of a new parser returns an action if there are bytes.
 fn begins_rightly(alloc: Global, call: Call, bytes: &[u8]) -> bool {
     let mut parser = Parser::new(alloc);
     match call.shown(alloc, &mut parser, bytes) {

@@ -36,7 +36,7 @@ impl Limited<'_> {
         report.note_unless(is_alike, name, "read otherwise by segments");
     }
 
-    // In two chunks, cut at each place.
+    // Checks the stream in two chunks, cut at each place.
     fn check_input_chunks(&self, alloc: Global, report: &mut Report) {
         let stream = self.stream;
         for at in 0..=stream.bytes.len() {
@@ -46,7 +46,7 @@ impl Limited<'_> {
         }
     }
 
-    // The actions of two chunks.
+    // Returns the actions of two chunks.
     fn in_input_chunks(
         &self,
         alloc: Global,
@@ -60,8 +60,8 @@ impl Limited<'_> {
         gathered.ended()
     }
 
-    // The actions of the stream byte by byte. No more is kept than the limit, and so much after all
-    // of it; otherwise it fails.
+    // Returns the actions of the stream byte by byte. No more is kept than the limit, and so much
+    // after all of it; otherwise it fails.
     fn by_bytes(&self, alloc: Global) -> Result<Vec<Action>, ParseError> {
         let mut parser = Parser::with_limit(alloc, self.limit);
         let mut gathered = Gathered::new(alloc);
@@ -77,7 +77,7 @@ impl Limited<'_> {
         gathered.ended()
     }
 
-    // Its normal form.
+    // Returns its normal form.
     fn normalised(&self, alloc: Global) -> Result<String, AllocError> {
         let mut normal = Watched::new(Vec::new(alloc));
         let mut reader = Watched::new(self.stream.bytes);
@@ -85,7 +85,7 @@ impl Limited<'_> {
         written(alloc, ending, normal.into_inner())
     }
 
-    // Whether it is compared rightly with its normal form.
+    // Returns whether it is compared rightly with its normal form.
     fn is_compared(&self, alloc: Global) -> bool {
         let is_same = self.stream.text.as_bytes() == self.stream.bytes;
         match is_normal_limited(alloc, &mut Watched::new(self.stream.bytes), self.limit) {

@@ -33,7 +33,7 @@ impl<'a> Line<'a> {
     }
 }
 
-// The texts on either side of the first mark; without one the text and the other.
+// Returns the texts on either side of the first mark; without one the text and the other.
 fn cut<'a>(text: &'a str, mark: char, other: &'a str) -> (&'a str, &'a str) {
     match text.split_once(mark) {
         Some(parts) => parts,
@@ -50,7 +50,7 @@ fn is_word(word: &str) -> bool {
     false
 }
 
-/// The number that a text is.
+/// Returns the number that a text is.
 pub fn number(text: &str) -> Result<usize, Fault> {
     match text.parse::<usize>() {
         Ok(number) => Ok(number),

@@ -5,8 +5,8 @@ use std::alloc::{AllocError, Global};
 
 const KEYS: usize = 100_000;
 
-// A link of as many parameters as `KEYS`. Their keys are numbers of six digits, which rise, or fall
-// if `falls` is true.
+// Returns a link of as many parameters as `KEYS`. Their keys are numbers of six digits, which rise,
+// or fall if `falls` is true.
 fn link_of_keys(alloc: Global, falls: bool) -> Result<String, AllocError> {
     let mut stream = String::new(alloc);
     stream.push_str("\x1b]8;")?;
@@ -19,7 +19,7 @@ fn link_of_keys(alloc: Global, falls: bool) -> Result<String, AllocError> {
     Ok(stream)
 }
 
-// Whether the text that is written for the stream is this text.
+// Returns whether the text that is written for the stream is this text.
 fn is_written(alloc: Global, stream: &str, text: &str) -> bool {
     match parse_chunks(alloc, &[stream.as_bytes()]) {
         Ok(actions) => is_text(encode(alloc, &actions), text),
@@ -34,7 +34,7 @@ fn is_text<E: Drop>(written: Result<String, E>, text: &str) -> bool {
     }
 }
 
-/// Whether links of rising and of falling keys are written with rising ones.
+/// Returns whether links of rising and of falling keys are written with rising ones.
 pub fn are_sorted(alloc: Global) -> bool {
     match (link_of_keys(alloc, true), link_of_keys(alloc, false)) {
         (Ok(falling), Ok(rising)) => {

@@ -9,7 +9,7 @@ use crate::row::Row;
 use escape_stream::{Action, ParseError, Parser};
 use std::alloc::Global;
 
-// How many bytes more than one a chunk has at most.
+// Says how many bytes more than one a chunk has at most.
 const LONGEST: u8 = 11;
 
 /// Notes the first of the streams of a row whose readings differ, with the number that it is made
@@ -39,7 +39,7 @@ fn check_seed(alloc: Global, name: &str, seed: u64, report: &mut Report) {
     }
 }
 
-// The reading of a parser that differs from that of the segments, if one does.
+// Returns the reading of a parser that differs from that of the segments, if one does.
 fn difference(alloc: Global, stream: &[u8], random: &mut Random) -> Option<&'static str> {
     if !is_alike(alloc, stream, Reading::Whole) {
         return Some("the stream whole differs");
@@ -54,7 +54,7 @@ fn difference(alloc: Global, stream: &[u8], random: &mut Random) -> Option<&'sta
     None
 }
 
-// The actions that a parser hands out for the stream in chunks.
+// Returns the actions that a parser hands out for the stream in chunks.
 fn in_input_chunks(
     alloc: Global,
     stream: &[u8],

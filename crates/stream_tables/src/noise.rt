@@ -1,11 +1,11 @@
-//! The parts of which streams are made.
+//! This module defines the parts that make streams.
 use crate::fault::Fault;
 use crate::random::Random;
 use crate::unescaped::unescaped;
 use std::alloc::Global;
 
-// The parts of which streams are made, beside bytes by themselves, with `|` between: openers, ends,
-// and the content of strings and sequences. One text, since a table of so many is dear to prove.
+// These parts make streams, beside bytes by themselves, with `|` between: openers, ends, and the
+// content of strings and sequences. They are one text, since a table of so many is dear to prove.
 const PIECES: &str = "\
 \\x1b|\\x1b[|\\x1b]|\\x1bP|\\x1b_|\\x1bX|\\x1b^|\\x9b|\\x9d|\\x90|\\x9f|\\x98|\\x9e|\
 \\xc2\\x9b|\\xc2\\x9d|\\xc2\\x90|\\xc2\\x9f|\\xc2\\x98|\\x9c|\\xc2\\x9c|\\x1b\\\\|\\x07|\
@@ -19,7 +19,7 @@ Ga=T,f=100;YQ==|a=d,d=A|text|\\\\|]|[|P|\\xc3\\xa9|\\xe2\\x82\\xac|\\xe2\\x82|\
 // The number of the last chunk.
 const LAST_PIECE: u8 = 95;
 
-// How many parts a stream has at most.
+// Says how many parts a stream has at most.
 const MOST_PARTS: u8 = 48;
 
 /// Makes a stream of random bytes, of chunks, or of both.

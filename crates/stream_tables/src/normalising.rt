@@ -8,7 +8,7 @@ pub const STREAM: &[u8] = b"\x1b]0;a\x07b";
 
 pub const TEXT: &[u8] = b"\x1b]0;a\x1b\\b";
 
-/// A reader of these bytes, one a call, which fails at this call.
+/// Returns a reader of these bytes, one a call, which fails at this call.
 pub fn reader(stream: &[u8], fails_at: usize) -> Watched<ByteReader<'_>> {
     Watched::new(ByteReader {
         rest: stream,
@@ -17,13 +17,13 @@ pub fn reader(stream: &[u8], fails_at: usize) -> Watched<ByteReader<'_>> {
     })
 }
 
-/// A writer of so much room, which takes so many bytes a call, and fails at this call.
+/// Returns a writer of so much room, which takes so many bytes a call, and fails at this call.
 pub fn writer(room: usize, step: usize, fails_at: usize) -> Watched<FixedWriter> {
     Watched::new(FixedWriter::new(room, step, fails_at))
 }
 
-// Whether normalising ends so: with this fault, after so many bytes of the text were written.
-// Without a fault all is read; if nothing is to be written, the writer is not called.
+// Returns whether normalising ends so: with this fault, after so many bytes of the text were
+// written. Without a fault all is read; if nothing is to be written, the writer is not called.
 fn ends(
     alloc: Global,
     mut from: Watched<ByteReader<'_>>,
@@ -43,7 +43,7 @@ fn ends(
     is_right & ((held.calls > 0) == (is_write_fault | (written > 0)))
 }
 
-/// Whether it ends rightly if a read or a write fails.
+/// Returns whether it ends rightly if a read or a write fails.
 pub fn are_faults_told(alloc: Global) -> bool {
     let read = Some(NormaliseError::Read);
     let write = Some(NormaliseError::Write);
@@ -55,7 +55,8 @@ pub fn are_faults_told(alloc: Global) -> bool {
     is_right
 }
 
-/// Whether it ends rightly with a writer that has room, with a full one, and with nothing to write.
+/// Returns whether it ends rightly with a writer that has room, with a full one, and with nothing
+/// to write.
 pub fn is_room_used(alloc: Global) -> bool {
     let write = Some(NormaliseError::Write);
     let mut is_right = ends(alloc, reader(STREAM, 0), writer(64, 1, 0), None, TEXT.len());
@@ -63,7 +64,7 @@ pub fn is_room_used(alloc: Global) -> bool {
     is_right & ends(alloc, reader(b"", 0), writer(0, 1, 1), None, 0)
 }
 
-// Whether `is_normal` ends so with a reader that fails at this call.
+// Returns whether `is_normal` ends so with a reader that fails at this call.
 fn judges(alloc: Global, stream: &[u8], at: usize, wanted: Result<bool, NormaliseError>) -> bool {
     let mut from = reader(stream, at);
     let mut is_right = is_normal(alloc, &mut from) == wanted;
@@ -71,15 +72,15 @@ fn judges(alloc: Global, stream: &[u8], at: usize, wanted: Result<bool, Normalis
     is_right & (wanted.is_err() | from.into_inner().rest.is_empty())
 }
 
-// Whether this is the normal form of a stream.
+// Returns whether this is the normal form of a stream.
 fn is_form(alloc: Global, stream: &[u8], form: &[u8]) -> bool {
     let mut to = Watched::new(Vec::new(alloc));
     let result = normalise(alloc, &mut Watched::new(stream), &mut to);
     result.is_ok() & (to.into_inner().as_slice() == form)
 }
 
-/// Whether a text is told from its normal form. A byte of data over 9F is written as two bytes,
-/// which are read as two: the normal form of that stream is not normal.
+/// Returns whether a text is told from its normal form. A byte of data over 9F is written as two
+/// bytes, which are read as two: the normal form of that stream is not normal.
 pub fn is_form_told(alloc: Global) -> bool {
     let form = b"\x1bPp\xc3\xa2\x1b\\";
     let mut is_right = judges(alloc, STREAM, 0, Ok(false)) & judges(alloc, TEXT, 0, Ok(true));

@@ -1,12 +1,12 @@
-//! How often a filter asks its policy.
+//! This module says how often a filter asks its policy.
 use crate::reading::Reading;
 use esc_filter::{Admit, filter_stream};
 use escape_stream::{Action, Esc, Watched};
 use std::alloc::Global;
 use std::cell::Cell;
 
-// How many actions are done with, how many of them the policy was asked of, and whether one came
-// that was not due.
+// Says how many actions are done with, how many of them the policy was asked of, and whether one
+// came that was not due.
 #[derive(Clone, Copy, PartialEq, Eq)]
 struct Progress {
     done: usize,
@@ -48,7 +48,8 @@ impl Expecting<'_> {
     }
 }
 
-// Whether it saves or restores the cursor, so that a policy may be asked about it at the end.
+// Returns whether it saves or restores the cursor, so that a policy may be asked about it at the
+// end.
 fn is_of_the_cursor(action: &Action) -> bool {
     matches!(
         action,
@@ -72,9 +73,9 @@ impl Admit<Global> for Expecting<'_> {
     }
 }
 
-/// Whether a policy that admits all is asked of each action that can be written by itself, and
-/// shown each other one; a policy that admits none is asked of the same, and shown each: once, in
-/// order. At the end it may be asked whether the cursor may be saved and restored.
+/// Returns whether a policy that admits all is asked of each action that can be written by itself,
+/// and shown each other one; a policy that admits none is asked of the same, and shown each: once,
+/// in order. At the end it may be asked whether the cursor may be saved and restored.
 pub fn is_asked_once(alloc: Global, stream: &[u8], limit: usize) -> bool {
     match Reading::Whole.read(alloc, stream) {
         Ok(actions) => are_asked_once(alloc, stream, limit, &actions),
@@ -82,14 +83,14 @@ pub fn is_asked_once(alloc: Global, stream: &[u8], limit: usize) -> bool {
     }
 }
 
-// Whether a policy is asked once of each of these actions of the stream.
+// Returns whether a policy is asked once of each of these actions of the stream.
 fn are_asked_once(alloc: Global, stream: &[u8], limit: usize, actions: &[Action]) -> bool {
     let all = asked_of(alloc, stream, limit, actions, true);
     let none = asked_of(alloc, stream, limit, actions, false);
     !all.differs & (all.done == actions.len()) & (all == none)
 }
 
-// The actions about which a policy that admits all or nothing is asked.
+// Returns the actions about which a policy that admits all or nothing is asked.
 fn asked_of(
     alloc: Global,
     stream: &[u8],

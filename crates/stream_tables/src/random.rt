@@ -8,12 +8,12 @@ pub struct Random {
 }
 
 impl Random {
-    /// The generator of this seed.
+    /// Returns the generator of this seed.
     pub fn new(seed: u64) -> Random {
         Random { state: seed }
     }
 
-    /// The next number.
+    /// Returns the next number.
     pub fn next(&mut self) -> u64 {
         self.state = self.state.wrapping_add(0x9e37_79b9_7f4a_7c15);
         let mut mixed = self.state;
@@ -22,12 +22,12 @@ impl Random {
         mixed ^ (mixed >> 31)
     }
 
-    /// The next number, below 256.
+    /// Returns the next number, below 256.
     pub fn byte(&mut self) -> u8 {
         (self.next() % 256) as u8
     }
 
-    /// A number up to the greatest, this included.
+    /// Returns a number up to the greatest, this included.
     pub fn up_to(&mut self, greatest: u8) -> usize {
         let kinds = greatest as u64 + 1;
         (self.next() % kinds) as usize

@@ -81,7 +81,7 @@ fn by_segments<A: Allocator + Copy>(
     gathered.ended()
 }
 
-// The result that a parser would return.
+// Returns the result that a parser would return.
 fn parsed<T: Drop>(read: Result<T, AllocError>) -> Result<T, ParseError> {
     match read {
         Ok(read) => Ok(read),
@@ -89,7 +89,7 @@ fn parsed<T: Drop>(read: Result<T, AllocError>) -> Result<T, ParseError> {
     }
 }
 
-/// The actions that a closure is given of a stream that comes byte by byte.
+/// Returns the actions that a closure is given of a stream that comes byte by byte.
 pub fn by_calls(alloc: Global, stream: &[u8]) -> Result<Vec<Action>, ParseError> {
     let mut parser = Parser::new(alloc);
     let mut gathered = Gathered::new(alloc);
@@ -106,8 +106,8 @@ const NEXT: [&[u8]; 8] = [
     b"", b"\x18", b"\x1a", b"\x1b", b"\x9c", b"\x9b", b"\x90", b"\xff",
 ];
 
-/// Whether a parser hands out the actions of the segments, of these bytes and of these with one
-/// byte after them, whole and byte by byte.
+/// Returns whether a parser hands out the actions of the segments, of these bytes and of these with
+/// one byte after them, whole and byte by byte.
 pub fn is_read_alike(alloc: Global, bytes: &[u8]) -> bool {
     let mut is_right = true;
     for next in NEXT {
@@ -116,7 +116,7 @@ pub fn is_read_alike(alloc: Global, bytes: &[u8]) -> bool {
     is_right
 }
 
-// The same for these bytes with those that come next.
+// Does the same for these bytes with those that come next.
 fn is_alike_before(alloc: Global, bytes: &[u8], next: &[u8]) -> bool {
     match joined(alloc, bytes, next) {
         Ok(stream) => {
@@ -132,7 +132,7 @@ fn joined(alloc: Global, bytes: &[u8], next: &[u8]) -> Result<Vec<u8>, AllocErro
     Ok(stream)
 }
 
-/// Whether a stream has the actions of its segments, read in this way.
+/// Returns whether a stream has the actions of its segments, read in this way.
 pub fn is_alike(alloc: Global, stream: &[u8], reading: Reading) -> bool {
     is_same(
         Reading::Segments.read(alloc, stream),

@@ -3,7 +3,7 @@ use crate::fault::Fault;
 use crate::line::number;
 use std::alloc::{AllocError, Global};
 
-// How many characters of a text are shown.
+// Says how many characters of a text are shown.
 const SHOWN: usize = 2000;
 
 /// The number of rows that were checked, of differences that were seen, and a line for each, unless
@@ -16,7 +16,7 @@ pub struct Report {
 }
 
 impl Report {
-    /// Nothing yet.
+    /// Returns an empty report.
     pub fn new(alloc: Global) -> Report {
         Report {
             rows: 0,
@@ -46,7 +46,7 @@ impl Report {
         }
     }
 
-    /// The number that a text of a row is. If it is none, that is noted.
+    /// Returns the number that a text of a row is. If it is none, that is noted.
     pub fn number_of(&mut self, row: &str, text: &str) -> usize {
         match number(text) {
             Ok(number) => number,

@@ -28,7 +28,7 @@ impl<'a> Row<'a> {
         }
     }
 
-    /// Whether it has a line of this word.
+    /// Returns whether it has a line of this word.
     pub fn has(&self, word: &str) -> bool {
         for line in &self.lines {
             if line.word == word {
@@ -38,7 +38,7 @@ impl<'a> Row<'a> {
         false
     }
 
-    /// The bytes of all its lines of this word. A fault in one is noted.
+    /// Returns the bytes of all its lines of this word. A fault in one is noted.
     pub fn bytes(&self, alloc: Global, word: &str, report: &mut Report) -> Vec<u8> {
         let mut bytes = Vec::new(alloc);
         for line in &self.lines {
@@ -49,7 +49,7 @@ impl<'a> Row<'a> {
         bytes
     }
 
-    /// The text of all its lines of this word. A fault in one is noted.
+    /// Returns the text of all its lines of this word. A fault in one is noted.
     pub fn text(&self, alloc: Global, word: &str, report: &mut Report) -> String {
         match String::from_utf8(self.bytes(alloc, word, report)) {
             Ok(text) => text,
@@ -60,13 +60,13 @@ impl<'a> Row<'a> {
         }
     }
 
-    /// The text of its actions: its stream, if it has no text.
+    /// Returns the text of its actions: its stream, if it has no text.
     pub fn written(&self, alloc: Global, report: &mut Report) -> String {
         let word = if self.has("text") { "text" } else { "stream" };
         self.text(alloc, word, report)
     }
 
-    /// The number after a word, and 0 if it has none.
+    /// Returns the number after a word, and 0 if it has none.
     pub fn number(&self, word: &str, report: &mut Report) -> usize {
         for line in &self.lines {
             if line.word == word {
@@ -76,7 +76,7 @@ impl<'a> Row<'a> {
         0
     }
 
-    /// The Debug text of the list of its actions, as a call returns it.
+    /// Returns the Debug text of the list of its actions, as a call returns it.
     pub fn actions(&self, alloc: Global, report: &mut Report) -> String {
         let mut list = String::new(alloc);
         report.note_fault(self.name, add_actions(alloc, &self.lines, &mut list));
@@ -84,7 +84,7 @@ impl<'a> Row<'a> {
     }
 }
 
-// How a list of actions begins.
+// Says how a list of actions begins.
 const BEGINS: &str = "Ok([";
 
 // Adds the lines of a block.
@@ -97,7 +97,7 @@ fn add_lines<'a>(block: &'a str, lines: &mut Vec<Line<'a>>) -> Result<(), Fault>
     Ok(())
 }
 
-// The name of the row of these lines, if it is one.
+// Returns the name of the row of these lines, if it is one.
 fn name_of<'a>(lines: &[Line<'a>]) -> Option<&'a str> {
     match lines {
         [line, ..] if line.word == "row" => Some(line.text),
@@ -163,7 +163,7 @@ fn add_kept(alloc: Global, text: &str, list: &mut String) -> Result<(), Fault> {
     Ok(write!(list, "OperatingSystemCommand(Unspecified({parts:?}))")?)
 }
 
-/// The parts of a command, between which `;` is.
+/// Returns the parts of a command, between which `;` is.
 pub fn parts_of(alloc: Global, text: &[u8]) -> Result<Vec<&[u8]>, AllocError> {
     let mut parts = Vec::new(alloc);
     for part in text.split(|b| *b == b';') {

@@ -10,7 +10,7 @@ const TEXT: &str = "\"ab\\u{1b}]0;t\\u{1b}\\\\c\\u{1b}[1m\"";
 const SHOWN: &str =
     "[Print('a'), Print('b'), OperatingSystemCommand(SetIconNameAndWindowTitle(\"t\")), Esc(Code(StringTerminator)), Print('c'), CSI(Sgr(Intensity(Bold)))]";
 
-// Whether each sink is given the stream's actions.
+// Returns whether each sink is given the stream's actions.
 fn is_collected(alloc: Global) -> bool {
     let (result, sink) = Parser::new(alloc).parse_into(STREAM, Collect::new(alloc));
     result.is_ok() & is_shown(alloc, sink.actions, SHOWN)
@@ -26,7 +26,7 @@ fn is_first_taken(alloc: Global) -> bool {
     result.is_ok() & is_shown(alloc, sink.action, "Some(Print('a'))")
 }
 
-/// Whether each sink takes them.
+/// Returns whether each sink takes them.
 pub fn are_taken(alloc: Global) -> bool {
     is_collected(alloc) & is_spelled(alloc) & is_first_taken(alloc)
 }

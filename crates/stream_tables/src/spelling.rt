@@ -6,8 +6,9 @@ use escape_stream::{Action, ParseError, Sink, TextSink};
 use failing_alloc::Refusing;
 use std::alloc::{AllocError, Allocator, Global};
 
-/// The text that the sink spells for the stream's actions, or the Debug text of the error. After a
-/// refused action it has the text that it had, and a prefix of the text that the action adds.
+/// Returns the text that the sink spells for the stream's actions, or the Debug text of the error.
+/// After a refused action it has the text that it had, and a prefix of the text that the action
+/// adds.
 pub fn spelled<B: Allocator + Copy>(
     alloc: Global,
     heap: &Refusing<B>,
@@ -59,7 +60,7 @@ impl<A: Allocator> Spelling<A> {
         self.is_refused = self.spell.receive(action).is_err();
     }
 
-    // Its text, or the Debug text of the error.
+    // Returns its text, or the Debug text of the error.
     fn text(&self, alloc: Global, stream: &Stream) -> Result<String, AllocError> {
         let text = self.spell.text.as_str();
         if !self.is_refused {

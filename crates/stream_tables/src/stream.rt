@@ -19,8 +19,8 @@ pub struct Stream<'a> {
     pub is_finished: bool,
 }
 
-/// The bytes of a stream, its actions, and their text, as the stream came if the row has no text;
-/// under a limit, if the row has one.
+/// Checks the bytes of a stream, its actions, and their text, as the stream came if the row has no
+/// text; under a limit, if the row has one.
 pub fn check_stream(alloc: Global, row: &Row, report: &mut Report) {
     let bytes = row.bytes(alloc, "stream", report);
     let actions = row.actions(alloc, report);
@@ -63,7 +63,7 @@ impl Stream<'_> {
         self.check_memory(alloc, report);
     }
 
-    // In one chunk, and in two chunks, cut at each place.
+    // Checks the stream in one chunk, and in two chunks, cut at each place.
     fn check_input_chunks(&self, alloc: Global, report: &mut Report) {
         self.is_read(alloc, "read whole", Reading::Whole, report);
         self.is_read(alloc, "read by segments", Reading::Segments, report);
@@ -94,7 +94,8 @@ impl Stream<'_> {
         report.note_unless(is_found, self.name, "first actions differ");
     }
 
-    // Each prefix, the stream itself too, also with a byte after it, by its segments and a parser.
+    // Checks each prefix, the stream itself too, also with a byte after it, by its segments and a
+    // parser.
     fn check_prefixes(&self, alloc: Global, report: &mut Report) {
         let len = self.bytes.len();
         if len > EACH_BYTE_UP_TO {
@@ -108,7 +109,7 @@ impl Stream<'_> {
         }
     }
 
-    // The text of the actions, and the actions that are read from it again.
+    // Checks the text of the actions, and the actions that are read from it again.
     fn check_text(&self, alloc: Global, report: &mut Report) {
         let actions = Reading::Whole.read(alloc, self.bytes);
         self.is_written("written", encoded(alloc, alloc, actions), report);
@@ -120,7 +121,7 @@ impl Stream<'_> {
         report.note_unless(is_displayed, self.name, "displayed otherwise");
     }
 
-    // Each request for memory is refused in turn.
+    // Checks the calls with each request for memory refused in turn.
     fn check_memory(&self, alloc: Global, report: &mut Report) {
         if self.bytes.len() > CUT_UP_TO {
             return;
@@ -132,13 +133,13 @@ impl Stream<'_> {
         }
     }
 
-    // Whether the stream has these actions, read in this way.
+    // Checks that the stream has these actions, read in this way.
     fn is_read(&self, alloc: Global, how: &str, reading: Reading, report: &mut Report) {
         let got = shown(alloc, reading.read(alloc, self.bytes));
         report.expect(self.name, how, self.actions, got);
     }
 
-    // Whether the text that is written for the stream in this way is its text.
+    // Checks that the text that is written for the stream in this way is its text.
     fn is_written(&self, how: &str, got: Result<String, AllocError>, report: &mut Report) {
         report.expect(self.name, how, self.text, got);
     }

@@ -8,8 +8,8 @@ use std::alloc::Global;
 use std::io;
 use std::io::{ErrorKind, Write};
 
-// Whether the stream ends so, if each call of the reader gives one byte of it and this call fails:
-// with this fault, after so many bytes of the text were written.
+// Returns whether the stream ends so, if each call of the reader gives one byte of it and this call
+// fails: with this fault, after so many bytes of the text were written.
 fn ends(
     alloc: Global,
     fails_at: usize,
@@ -23,8 +23,8 @@ fn ends(
     (result.err() == fault) & is_held
 }
 
-/// Whether it ends rightly if a read or a write fails, and if the writer is full. The string ends
-/// at the sixth byte, and is written before the seventh is read.
+/// Returns whether it ends rightly if a read or a write fails, and if the writer is full. The
+/// string ends at the sixth byte, and is written before the seventh is read.
 pub fn are_stream_faults_told(alloc: Global) -> bool {
     let read = Some(FilterError::Read);
     let write = Some(FilterError::Write);
@@ -52,15 +52,15 @@ impl Write for Unflushed {
     }
 }
 
-/// Whether a flush that fails is a write fault.
+/// Returns whether a flush that fails is a write fault.
 pub fn is_flush_told(alloc: Global) -> bool {
     let mut to = Watched::new(Unflushed);
     let result = normalise_stream(alloc, &mut Watched::new(STREAM), &mut to, None);
     (result == Err(FilterError::Write)) & to.failed()
 }
 
-// Whether the stream ends as it has to if this request is refused: with the fault, or if it has
-// fewer requests without one.
+// Returns whether the stream ends as it has to if this request is refused: with the fault, or if it
+// has fewer requests without one.
 fn is_refused_at(heap: &Refusing<Global>, at: u64) -> bool {
     heap.refuse_at(at);
     let mut to = writer(64, 1, 0);
@@ -74,8 +74,8 @@ fn is_refused_at(heap: &Refusing<Global>, at: u64) -> bool {
     }
 }
 
-/// Whether it ends rightly if each of its requests for memory is refused in turn. There are some,
-/// and fewer than a hundred.
+/// Returns whether it ends rightly if each of its requests for memory is refused in turn. There are
+/// some, and fewer than a hundred.
 pub fn are_refusals_told(alloc: Global) -> bool {
     let heap = Refusing::new(alloc);
     let mut is_right = true;

@@ -3,12 +3,12 @@ use escape_stream::{Action, ParseError, encode};
 use std::alloc::{AllocError, Allocator, Global};
 use std::fmt::{Debug, Display};
 
-/// The Debug text of a value.
+/// Returns the Debug text of a value.
 pub fn shown<T: Debug + Drop>(alloc: Global, value: T) -> Result<String, AllocError> {
     format!(in alloc; "{value:?}")
 }
 
-/// Whether this is the Debug text of a value.
+/// Returns whether this is the Debug text of a value.
 pub fn is_shown<T: Debug + Drop>(alloc: Global, value: T, wanted: &str) -> bool {
     match format!(in alloc; "{value:?}") {
         Ok(text) => text.as_str() == wanted,
@@ -16,7 +16,7 @@ pub fn is_shown<T: Debug + Drop>(alloc: Global, value: T, wanted: &str) -> bool 
     }
 }
 
-/// The text that `encode` writes for these actions, or the Debug text of the error.
+/// Returns the text that `encode` writes for these actions, or the Debug text of the error.
 pub fn encoded<A: Allocator + Copy>(
     alloc: Global,
     heap: A,
@@ -28,7 +28,7 @@ pub fn encoded<A: Allocator + Copy>(
     }
 }
 
-// A text, or the Debug text of the error.
+// Returns a text, or the Debug text of the error.
 fn text_of<A: Allocator, E: Debug + Drop>(
     alloc: Global,
     text: Result<String<A>, E>,
@@ -39,7 +39,8 @@ fn text_of<A: Allocator, E: Debug + Drop>(
     }
 }
 
-/// The text that a call wrote that ended so, in this form: after an error nothing is to be written.
+/// Returns the text that a call wrote that ended so, in this form: after an error nothing is to be
+/// written.
 pub fn written<E: Debug + Drop>(
     alloc: Global,
     ending: Result<(), E>,
@@ -55,7 +56,7 @@ pub fn written<E: Debug + Drop>(
 // The text of a terminator.
 const TERMINATOR: &[u8] = b"\x1b\\";
 
-/// Whether the Display texts of these items are this text, but for string terminators.
+/// Returns whether the Display texts of these items are this text, but for string terminators.
 pub fn is_displayed<T: Display + Drop>(
     alloc: Global,
     items: Result<Vec<T>, ParseError>,
@@ -81,8 +82,8 @@ fn are_displayed<T: Display>(alloc: Global, items: &[T], text: &str) -> bool {
     }
 }
 
-// The rest after the text of an item, before which a terminator may come. A terminator may be left
-// out.
+// Returns the rest after the text of an item, before which a terminator may come. A terminator may
+// be left out.
 fn skip<'a>(text: Option<&'a [u8]>, shown: &[u8]) -> Option<&'a [u8]> {
     let text = text?;
     if let Some(after) = text.strip_prefix(shown) {
@@ -94,7 +95,7 @@ fn skip<'a>(text: Option<&'a [u8]>, shown: &[u8]) -> Option<&'a [u8]> {
     text.strip_prefix(TERMINATOR)?.strip_prefix(shown)
 }
 
-/// The Debug text of a list of a command, and its Display text.
+/// Returns the Debug text of a list of a command, and its Display text.
 pub fn both<T: Debug + Display + Drop>(
     alloc: Global,
     command: Result<T, AllocError>,

@@ -2,8 +2,8 @@
 use crate::fault::Fault;
 use std::alloc::Global;
 
-/// The bytes that a text stands for: `\xNN` is the byte of two hexadecimal digits, `\\` is `\`, and
-/// any other character is itself, in UTF-8.
+/// Returns the bytes that a text stands for: `\xNN` is the byte of two hexadecimal digits, `\\` is
+/// `\`, and any other character is itself, in UTF-8.
 pub fn unescaped(alloc: Global, text: &str) -> Result<Vec<u8>, Fault> {
     let mut bytes = Vec::new(alloc);
     match add(text, &mut bytes) {
@@ -28,7 +28,7 @@ fn add(text: &str, bytes: &mut Vec<u8>) -> Result<(), Fault> {
     }
 }
 
-// How much of an escape has been read.
+// Says how much of an escape has been read.
 #[derive(Clone, Copy)]
 enum Escape {
     None,
@@ -38,7 +38,7 @@ enum Escape {
 }
 
 impl Escape {
-    // The byte that ends with this one, if one does, and the state of the reader then.
+    // Returns the byte that ends with this one, if one does, and the state of the reader then.
     fn take(self, byte: u8) -> Result<(Option<u8>, Escape), Fault> {
         match (self, byte) {
             (Escape::None, b'\\') => Ok((None, Escape::Begun)),
@@ -51,7 +51,7 @@ impl Escape {
     }
 }
 
-// The value of a hexadecimal digit.
+// Returns the value of a hexadecimal digit.
 fn digit(byte: u8) -> Result<u8, Fault> {
     match byte {
         b'0'..=b'9' => Ok(byte - b'0'),

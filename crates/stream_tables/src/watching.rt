@@ -7,7 +7,7 @@ use std::alloc::Global;
 use std::io;
 use std::io::{ErrorKind, Read, Write};
 
-// The kind of the error that comes back, if one does.
+// Returns the kind of the error that comes back, if one does.
 fn kind_of<T: Drop>(outcome: io::Result<T>) -> Option<ErrorKind> {
     match outcome {
         Ok(_) => None,
@@ -15,13 +15,14 @@ fn kind_of<T: Drop>(outcome: io::Result<T>) -> Option<ErrorKind> {
     }
 }
 
-// The kind of error that a call of a reader returns, if it does, and whether it has failed then.
+// Returns the kind of error that a call of a reader returns, if it does, and whether it has failed
+// then.
 fn after_call<R: Read>(from: &mut Watched<R>) -> (Option<ErrorKind>, bool) {
     let kind = kind_of(from.read(&mut [0u8; 4]));
     (kind, from.failed())
 }
 
-// Whether two bytes of a stream are read, and the others are left.
+// Returns whether two bytes of a stream are read, and the others are left.
 fn is_read_on() -> bool {
     let mut from = Watched::new(STREAM);
     let mut prefix = [0u8; 2];
@@ -31,7 +32,7 @@ fn is_read_on() -> bool {
     is_right & (prefix.as_slice() == b"\x1b]".as_slice())
 }
 
-// Whether the error of a read comes back as it is, and is remembered.
+// Returns whether the error of a read comes back as it is, and is remembered.
 fn is_remembered<R: Read>(from: &mut Watched<R>, kind: ErrorKind) -> bool {
     let is_first = after_call(from) == (Some(kind), true);
     is_first & (after_call(from) == (None, true))
@@ -45,7 +46,7 @@ fn failing_reader() -> Watched<ByteReader<'static>> {
     })
 }
 
-/// Whether the calls of a reader are passed on, and its error is remembered.
+/// Returns whether the calls of a reader are passed on, and its error is remembered.
 pub fn is_reader_passed_on() -> bool {
     let mut from = failing_reader();
     let is_first = after_call(&mut from) == (None, false);
@@ -76,7 +77,7 @@ fn interrupted_reader() -> Watched<Interrupted<'static>> {
     })
 }
 
-// Whether an interrupted read is not made again by `normalise`, which writes nothing then.
+// Returns whether an interrupted read is not made again by `normalise`, which writes nothing then.
 fn is_read_fault(alloc: Global) -> bool {
     let mut from = interrupted_reader();
     let mut to = writer(64, 64, 0);
@@ -85,12 +86,12 @@ fn is_read_fault(alloc: Global) -> bool {
     (result == Err(NormaliseError::Read)) & from.failed() & is_unwritten
 }
 
-/// Whether an interrupted read is remembered, and is a read fault.
+/// Returns whether an interrupted read is remembered, and is a read fault.
 pub fn is_interruption_told(alloc: Global) -> bool {
     is_remembered(&mut interrupted_reader(), ErrorKind::Interrupted) & is_read_fault(alloc)
 }
 
-// Whether a writer is given the bytes that are written, and flushed.
+// Returns whether a writer is given the bytes that are written, and flushed.
 fn is_passed_on() -> bool {
     let mut to = writer(64, 64, 0);
     let mut is_right = to.write_all(b"ab").is_ok();
@@ -100,7 +101,8 @@ fn is_passed_on() -> bool {
     is_right & (held.flushes == 1) & held.holds(b"ab")
 }
 
-// Whether a full writer is remembered, once it has taken nothing of the bytes that it was given.
+// Returns whether a full writer is remembered, once it has taken nothing of the bytes that it was
+// given.
 fn is_full_remembered() -> bool {
     let mut to = writer(1, 64, 0);
     let mut is_right = is_taken(&mut to, b"", 0);
@@ -111,7 +113,7 @@ fn is_full_remembered() -> bool {
     is_right & to.failed()
 }
 
-// Whether a write takes so many bytes.
+// Returns whether a write takes so many bytes.
 fn is_taken(to: &mut Watched<FixedWriter>, bytes: &[u8], count: usize) -> bool {
     match to.write(bytes) {
         Ok(taken) => taken == count,
@@ -119,7 +121,7 @@ fn is_taken(to: &mut Watched<FixedWriter>, bytes: &[u8], count: usize) -> bool {
     }
 }
 
-/// Whether the calls of a writer are passed on, and a full one is remembered.
+/// Returns whether the calls of a writer are passed on, and a full one is remembered.
 pub fn is_writer_passed_on() -> bool {
     is_passed_on() & is_full_remembered()
 }
@@ -149,7 +151,7 @@ fn broken_writer(kind: ErrorKind) -> Watched<Broken> {
     Watched::new(Broken { taken: 0, kind })
 }
 
-// Whether errors of this kind come back from each call of a writer.
+// Returns whether errors of this kind come back from each call of a writer.
 fn comes_back(kind: ErrorKind) -> bool {
     let mut flushed = broken_writer(kind);
     let mut is_right = kind_of(flushed.flush()) == Some(kind);
@@ -159,7 +161,7 @@ fn comes_back(kind: ErrorKind) -> bool {
     is_right & whole.failed() & comes_back_of_a_write(kind)
 }
 
-// Whether one comes back from the second write, and none from the first.
+// Returns whether one comes back from the second write, and none from the first.
 fn comes_back_of_a_write(kind: ErrorKind) -> bool {
     let mut written = broken_writer(kind);
     let mut is_right = kind_of(written.write(b"ab")).is_none();
@@ -168,15 +170,15 @@ fn comes_back_of_a_write(kind: ErrorKind) -> bool {
     is_right & written.failed()
 }
 
-/// Whether the errors of a writer come back.
+/// Returns whether the errors of a writer come back.
 pub fn are_errors_passed_on() -> bool {
     comes_back(ErrorKind::BrokenPipe) & comes_back(ErrorKind::TimedOut)
 }
 
 const WORD: &[u8] = b"abcd";
 
-// Whether a writer that failed at this call holds the bytes that it took before, and was not called
-// again.
+// Returns whether a writer that failed at this call holds the bytes that it took before, and was
+// not called again.
 fn is_prefix_held(to: Watched<FixedWriter>, at: usize) -> bool {
     let has_failed = to.failed();
     let held = to.into_inner();
@@ -184,7 +186,7 @@ fn is_prefix_held(to: Watched<FixedWriter>, at: usize) -> bool {
     has_failed & is_prefix & (held.calls == at)
 }
 
-/// Whether a writer that fails holds a prefix of the bytes that it was to be given.
+/// Returns whether a writer that fails holds a prefix of the bytes that it was to be given.
 pub fn is_prefix_kept() -> bool {
     let mut is_right = true;
     for at in 1..5usize {

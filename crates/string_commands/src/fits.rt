@@ -1,12 +1,12 @@
-//! Whether a string begins as a row says.
+//! This module says whether a string begins as a row says.
 ghost use Rattle.std.specs.Prelude.{◌≡◌, true};
 ghost use Rattle.string_commands.specs.Rows.{begins_so, ends_key, ends_part, has_key, has_part, is_key, is_only};
 
 use crate::begin::Begin;
 use crate::entry::Entry;
 
-/// Whether a string with these parameters, and this text after its key, begins as an entry says,
-/// and with this start.
+/// Returns whether a string with these parameters, and this text after its key, begins as an entry
+/// says, and with this start.
 pub(crate) fn begins_so(entry: &Entry, start: &[u8], params: &[i64], text: &[u8]) -> bool
     ensures { result ≡ begins_so entry.now start.now params.now text.now }
 {
@@ -19,7 +19,7 @@ pub(crate) fn begins_so(entry: &Entry, start: &[u8], params: &[i64], text: &[u8]
     }
 }
 
-// Whether a text begins with this part.
+// Returns whether a text begins with this part.
 fn has_part(part: &[u8], text: &[u8]) -> bool
     ensures { result ≡ has_part part.now text.now }
 {
@@ -30,7 +30,7 @@ fn has_part(part: &[u8], text: &[u8]) -> bool
     }
 }
 
-// Whether a part ends before this text.
+// Returns whether a part ends before this text.
 fn ends_part(text: &[u8]) -> bool
     ensures { result ≡ ends_part text.now }
 {
@@ -40,7 +40,7 @@ fn ends_part(text: &[u8]) -> bool
     }
 }
 
-// Whether this is the one parameter.
+// Returns whether this is the one parameter.
 fn is_only(number: i64, params: &[i64]) -> bool
     ensures { result ≡ is_only number params.now }
 {
@@ -50,7 +50,7 @@ fn is_only(number: i64, params: &[i64]) -> bool
     }
 }
 
-// Whether this is one of the keys of a text.
+// Returns whether this is one of the keys of a text.
 fn has_key(key: &[u8], text: &[u8]) -> bool
     ensures { result ≡ has_key true key.now text.now }
 {
@@ -67,7 +67,7 @@ fn has_key(key: &[u8], text: &[u8]) -> bool
     false
 }
 
-// Whether this is the key that a text begins with.
+// Returns whether this is the key that a text begins with.
 fn is_key(key: &[u8], text: &[u8]) -> bool
     ensures { result ≡ is_key key.now text.now }
 {
@@ -78,7 +78,7 @@ fn is_key(key: &[u8], text: &[u8]) -> bool
     }
 }
 
-// Whether a key ends before this text.
+// Returns whether a key ends before this text.
 fn ends_key(text: &[u8]) -> bool
     ensures { result ≡ ends_key text.now }
 {

@@ -8,8 +8,8 @@ use crate::row::Row;
 use crate::string_kind::StringKind;
 use crate::table::{row_in, search, search_names};
 
-/// The row of a string of this kind, this key, these parameters and this text after its key, as
-/// [`Entry`] has them: the first that fits.
+/// Returns the row of a string of this kind, this key, these parameters and this text after its
+/// key, as [`Entry`] has them: the first that fits.
 pub fn find(kind: StringKind, key: u32, params: &[i64], text: &[u8]) -> Option<Row>
     ensures { Finds (place_of kind key params.now text.now) result }
 {
@@ -19,7 +19,7 @@ pub fn find(kind: StringKind, key: u32, params: &[i64], text: &[u8]) -> Option<R
     }
 }
 
-/// The row of this name.
+/// Returns the row of this name.
 pub fn named(name: &[u8]) -> Option<Row>
     ensures { Finds (place_named name.now) result }
 {
@@ -29,7 +29,7 @@ pub fn named(name: &[u8]) -> Option<Row>
     }
 }
 
-/// The place of the first of these entries, with these starts, that a string has.
+/// Returns the place of the first of these entries, with these starts, that a string has.
 pub(crate) fn first_fit(
     entries: &[Entry],
     starts: &[&'static str],
@@ -51,7 +51,7 @@ pub(crate) fn first_fit(
     None
 }
 
-// Whether a string has this entry, with this start.
+// Returns whether a string has this entry, with this start.
 fn fits(
     kind: StringKind,
     key: u32,
@@ -69,7 +69,7 @@ fn fits(
     }
 }
 
-// The number of a kind.
+// Returns the number of a kind.
 fn rank(kind: StringKind) -> u8
     ensures { result ≡ rank kind }
 {
@@ -81,7 +81,7 @@ fn rank(kind: StringKind) -> u8
     }
 }
 
-/// The place of the first of these names that is this one.
+/// Returns the place of the first of these names that is this one.
 pub(crate) fn first_named(names: &[&'static str], name: &[u8]) -> Option<usize>
     ensures place { result ≡ first_named name.now (map (λ n. n.now) names.now) 0 }
     ensures below { IfSome result (λ i. i < length names.now) }

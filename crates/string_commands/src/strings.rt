@@ -10,8 +10,8 @@ use crate::string_kind::StringKind;
 // The greatest number before a digit.
 const MOST: u32 = 99_999_999;
 
-/// The row of the operating system command of this text, which lies between `ESC ]` and its end. It
-/// begins with a number, of at most 999,999,999, or with a letter.
+/// Returns the row of the operating system command of this text, which lies between `ESC ]` and its
+/// end. It begins with a number, of at most 999,999,999, or with a letter.
 pub fn command(text: &[u8]) -> Option<Row>
     ensures { Finds (place_of_command text.now) result }
 {
@@ -24,15 +24,16 @@ pub fn command(text: &[u8]) -> Option<Row>
     }
 }
 
-/// The row of the device control string with this private prefix, this intermediate, this final
-/// byte, these parameters and these data, whose beginning is enough.
+/// Returns the row of the device control string with this private prefix, this intermediate, this
+/// final byte, these parameters and these data, whose beginning is enough.
 pub fn device(marks: (Option<u8>, Option<u8>), last: u8, params: &[i64], data: &[u8]) -> Option<Row>
     ensures { Finds (place_of_device marks.0 marks.1 last params.now data.now) result }
 {
     find(StringKind::Dcs, device_key(marks, last), params, data)
 }
 
-/// The row of the application program command of this text, which lies between `ESC _` and its end.
+/// Returns the row of the application program command of this text, which lies between `ESC _` and
+/// its end.
 pub fn application(text: &[u8]) -> Option<Row>
     ensures { Finds (place_of_application text.now) result }
 {
@@ -42,7 +43,7 @@ pub fn application(text: &[u8]) -> Option<Row>
     }
 }
 
-// The number that a text begins with, up to a `;` or its end.
+// Returns the number that a text begins with, up to a `;` or its end.
 fn number_in(text: &[u8]) -> Option<u32>
     ensures { result ≡ number_in text.now }
 {
@@ -65,14 +66,14 @@ fn number_in(text: &[u8]) -> Option<u32>
     given(has_digit, number)
 }
 
-// A number, if there is one.
+// Returns a number, if there is one.
 fn given(has_digit: bool, number: u32) -> Option<u32>
     ensures { result ≡ given has_digit number }
 {
     if has_digit { Some(number) } else { None }
 }
 
-// The rest of a text after the first `;`.
+// Returns the rest of a text after the first `;`.
 fn after_mark(text: &[u8]) -> &[u8]
     ensures { result.now ≡ after_mark text.now }
 {
@@ -84,7 +85,7 @@ fn after_mark(text: &[u8]) -> &[u8]
     &[]
 }
 
-// The key of a device control string.
+// Returns the key of a device control string.
 fn device_key(marks: (Option<u8>, Option<u8>), last: u8) -> u32
     ensures { result ≡ device_key marks.0 marks.1 last }
 {
@@ -93,7 +94,7 @@ fn device_key(marks: (Option<u8>, Option<u8>), last: u8) -> u32
     256 * packed + u32::from(last)
 }
 
-// A number with a byte more, as a digit to the base 256.
+// Returns a number with a byte more, as a digit to the base 256.
 fn put_mark(number: u32, mark: Option<u8>) -> u32
     requires { number < 2 ^ 16 }
     ensures packed { result ≡ put_mark number mark }

@@ -366,7 +366,7 @@ macro_rules! strings {
     };
 }
 
-/// How many rows there are.
+/// Says how many rows there are.
 pub const COUNT: usize = 210;
 
 static ENTRIES: [Entry; COUNT] = strings!(entry);
@@ -385,7 +385,7 @@ static PARAMS: [&str; COUNT] = strings!(params);
 
 static FIELDS: [&str; COUNT] = strings!(fields);
 
-// The place of the row of a string.
+// Returns the place of the row of a string.
 #[tactic(auto, unfolding(crate::specs::Rows::place_of, crate::specs::Rows::starts))]
 pub(crate) fn search(kind: StringKind, key: u32, params: &[i64], text: &[u8]) -> Option<usize>
     ensures place { result ≡ place_of kind key params.now text.now }
@@ -394,7 +394,7 @@ pub(crate) fn search(kind: StringKind, key: u32, params: &[i64], text: &[u8]) ->
     first_fit(&ENTRIES, &STARTS, kind, key, params, text)
 }
 
-// The place of the row of a name.
+// Returns the place of the row of a name.
 #[tactic(auto, unfolding(crate::specs::Rows::place_named, crate::specs::Rows::names))]
 pub(crate) fn search_names(name: &[u8]) -> Option<usize>
     ensures place { result ≡ place_named name.now }
@@ -403,7 +403,7 @@ pub(crate) fn search_names(name: &[u8]) -> Option<usize>
     first_named(&NAMES, name)
 }
 
-// The row in a place.
+// Returns the row in a place.
 #[tactic(auto, unfolding(crate::specs::Rows::names, crate::specs::Rows::words, crate::specs::Rows::starts, crate::specs::Rows::entry_at))]
 pub(crate) fn row_in(place: usize) -> Row
     requires { place < COUNT }
@@ -423,7 +423,7 @@ pub(crate) fn row_in(place: usize) -> Row
     }
 }
 
-// The text in this place of a table.
+// Returns the text in this place of a table.
 fn text_in(texts: &[&'static str], index: usize) -> &'static str
     requires { index < length texts.now }
     ensures { result.now ≡ get_or (map (λ t. t.now) texts.now) index [] }
@@ -431,7 +431,7 @@ fn text_in(texts: &[&'static str], index: usize) -> &'static str
     texts[index]
 }
 
-/// The row in this place, from 0 on, if there is one.
+/// Returns the row in this place, from 0 on, if there is one.
 #[tactic(auto, using(crate::proofs::Places::row_below, crate::proofs::Places::no_row))]
 pub fn row_at(place: usize) -> Option<Row>
     ensures { Finds (place_below place) result }

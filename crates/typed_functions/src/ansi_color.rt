@@ -41,7 +41,7 @@ pub enum AnsiColor {
 }
 
 impl AnsiColor {
-    /// Its place in the palette, from 0 to 15: the bright ones come after the others.
+    /// Returns its place in the palette, from 0 to 15: the bright ones come after the others.
     #[inline]
     pub fn index(self) -> u8
         ensures index { result ≡ ansi_color_number self }
@@ -50,7 +50,7 @@ impl AnsiColor {
         self as u8
     }
 
-    /// The colour at a place from 0 to 15 of the palette; at any other, bright white.
+    /// Returns the colour at a place from 0 to 15 of the palette; at any other, bright white.
     #[inline]
     pub fn at(index: u8) -> AnsiColor
         ensures { result ≡ ansi_color_at index }

@@ -2,7 +2,7 @@
 
 use crate::one_based::Ordinal;
 
-// Which parameters a function has.
+// Says which parameters a function has.
 #[derive(Clone, Copy)]
 pub(crate) enum Kind {
     // none

@@ -1,6 +1,6 @@
-//! How characters blink.
+//! This module says how characters blink.
 
-/// How characters blink (ECMA-48, 8.3.117, SGR: parameters 5, 6 and 25).
+/// Says how characters blink (ECMA-48, 8.3.117, SGR: parameters 5, 6 and 25).
 #[derive(Clone, Copy, Debug, PartialEq, Eq)]
 pub enum Blink {
     /// SGR 25: steady.

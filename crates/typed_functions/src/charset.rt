@@ -47,8 +47,8 @@ pub enum Charset {
 }
 
 impl Charset {
-    /// The escape sequence that designates it. `None` if that has two intermediates; an [`Esc`] has
-    /// one.
+    /// Returns the escape sequence that designates it. `None` if that has two intermediates; an
+    /// [`Esc`] has one.
     pub fn sequence(self) -> Option<Esc>
         ensures { result ≡ charset_sequence self }
     {
@@ -58,8 +58,8 @@ impl Charset {
         }
     }
 
-    /// The bytes of that escape sequence after ESC: the first intermediate, the second, if there is
-    /// one, and the final byte.
+    /// Returns the bytes of that escape sequence after ESC: the first intermediate, the second, if
+    /// there is one, and the final byte.
     pub fn bytes(self) -> (u8, Option<u8>, u8)
         ensures { charset_bytes self ≡ (one_or_two result.0 result.1, result.2) }
     {
@@ -83,7 +83,7 @@ impl Charset {
     }
 }
 
-// The bytes that designate a set of several bytes as G0: without `(` if that was so first.
+// Returns the bytes that designate a set of several bytes as G0: without `(` if that was so first.
 fn multibyte_as_g0(set: MultibyteCharset) -> (u8, Option<u8>, u8)
     ensures { charset_bytes (Charset.G0Multibyte set) ≡ (one_or_two result.0 result.1, result.2) }
 {

@@ -60,7 +60,7 @@ pub enum Charset94 {
 }
 
 impl Charset94 {
-    /// The final byte that names it.
+    /// Returns the final byte that names it.
     #[inline]
     pub fn final_byte(self) -> u8
         ensures { result ≡ charset94_byte self }
@@ -68,7 +68,7 @@ impl Charset94 {
         self as u8
     }
 
-    /// The set that a final byte names, if there is one.
+    /// Returns the set that a final byte names, if there is one.
     pub fn of_final_byte(byte: u8) -> Option<Charset94>
         ensures { result ≡ charset94_at byte }
     {

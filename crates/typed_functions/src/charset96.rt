@@ -27,7 +27,7 @@ pub enum Charset96 {
 }
 
 impl Charset96 {
-    /// The final byte that names it.
+    /// Returns the final byte that names it.
     #[inline]
     pub fn final_byte(self) -> u8
         ensures { result ≡ charset96_byte self }
@@ -35,7 +35,7 @@ impl Charset96 {
         self as u8
     }
 
-    /// The set that a final byte names, if there is one.
+    /// Returns the set that a final byte names, if there is one.
     pub fn of_final_byte(byte: u8) -> Option<Charset96>
         ensures { result ≡ charset96_at byte }
     {

@@ -10,7 +10,7 @@ use esc_values::CsiParam::{Integer, P};
 use esc_values::{CsiParam, RgbColor};
 use std::fmt;
 
-// The colour by the entries after 38, 48 or 58.
+// Returns the colour by the entries after 38, 48 or 58.
 pub(crate) fn color_of(entries: &[CsiParam]) -> Option<ColorSpec>
     ensures { result ≡ color_of entries.now }
 {
@@ -20,7 +20,7 @@ pub(crate) fn color_of(entries: &[CsiParam]) -> Option<ColorSpec>
     }
 }
 
-// The same, with this separator.
+// Does the same, with this separator.
 fn color_with(separator: u8, entries: &[CsiParam]) -> Option<ColorSpec>
     ensures { result ≡ color_with separator entries.now }
 {
@@ -32,7 +32,7 @@ fn color_with(separator: u8, entries: &[CsiParam]) -> Option<ColorSpec>
     }
 }
 
-// An entry of the palette.
+// Returns an entry of the palette.
 fn indexed(separator: u8, entries: &[CsiParam]) -> Option<ColorSpec>
     ensures { result ≡ indexed separator entries.now }
 {
@@ -46,7 +46,7 @@ fn indexed(separator: u8, entries: &[CsiParam]) -> Option<ColorSpec>
     }
 }
 
-// Three intensities, with `:` also after a colour space and before a tolerance.
+// Returns three intensities, with `:` also after a colour space and before a tolerance.
 fn direct(separator: u8, entries: &[CsiParam]) -> Option<ColorSpec>
     ensures { result ≡ direct separator entries.now }
 {
@@ -62,7 +62,7 @@ fn direct(separator: u8, entries: &[CsiParam]) -> Option<ColorSpec>
     }
 }
 
-// Three intensities alone.
+// Returns three intensities alone.
 fn bare_direct(separator: u8, entries: &[CsiParam]) -> Option<ColorSpec>
     ensures { result ≡ bare_direct separator entries.now }
 {
@@ -72,7 +72,7 @@ fn bare_direct(separator: u8, entries: &[CsiParam]) -> Option<ColorSpec>
     }
 }
 
-// Three intensities after a colour space, and before at most three fields of a tolerance.
+// Returns three intensities after a colour space, and before at most three fields of a tolerance.
 fn direct_in_space(entries: &[CsiParam]) -> Option<ColorSpec>
     ensures { result ≡ direct_in_space entries.now }
 {
@@ -82,7 +82,7 @@ fn direct_in_space(entries: &[CsiParam]) -> Option<ColorSpec>
     }
 }
 
-// The colour, if nothing follows.
+// Returns the colour, if nothing follows.
 fn at_end(entries: &[CsiParam], color: RgbColor) -> Option<ColorSpec>
     ensures { result ≡ at_end entries.now (ColorSpec.TrueColor color) }
 {
@@ -93,7 +93,7 @@ fn at_end(entries: &[CsiParam], color: RgbColor) -> Option<ColorSpec>
     }
 }
 
-// Three intensities, and the rest.
+// Returns three intensities, and the rest.
 fn three(separator: u8, entries: &[CsiParam]) -> Option<(RgbColor, &[CsiParam])>
     ensures some { IfSome result (λ p. three separator entries.now ≡ Some (p.0, p.1.now)) }
     ensures none { IfNone result (three separator entries.now ≡ None) }
@@ -110,7 +110,7 @@ fn three(separator: u8, entries: &[CsiParam]) -> Option<(RgbColor, &[CsiParam])>
     Some((RgbColor::new_8bpc(red, green, blue), rest))
 }
 
-// The rest after a field, if one comes.
+// Returns the rest after a field, if one comes.
 fn after_field(entries: &[CsiParam]) -> &[CsiParam]
     ensures { result.now ≡ after_field entries.now }
 {
@@ -124,7 +124,7 @@ fn after_field(entries: &[CsiParam]) -> &[CsiParam]
     }
 }
 
-// The rest after a number, if one comes.
+// Returns the rest after a number, if one comes.
 fn after_number(entries: &[CsiParam]) -> &[CsiParam]
     ensures { result.now ≡ after_number entries.now }
 {

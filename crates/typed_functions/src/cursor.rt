@@ -98,7 +98,7 @@ impl fmt::Display for Cursor {
     }
 }
 
-// How it is spelled.
+// Returns its spelling.
 fn cursor_spelling(cursor: Cursor) -> Spelling
     ensures { result ≡ cursor_spelling cursor }
 {

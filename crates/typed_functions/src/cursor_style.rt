@@ -22,7 +22,7 @@ pub enum CursorStyle {
 }
 
 impl CursorStyle {
-    /// Its number.
+    /// Returns its number.
     #[inline]
     pub fn number(self) -> u8
         ensures { result ≡ cursor_style_number self }
@@ -30,7 +30,7 @@ impl CursorStyle {
         self as u8
     }
 
-    /// The choice of a number, if there is one.
+    /// Returns the choice of a number, if there is one.
     #[inline]
     pub fn of_number(number: u8) -> Option<CursorStyle>
         ensures { result ≡ cursor_style_at number }

@@ -1,8 +1,8 @@
-//! Which tab stops are set or cleared.
+//! This module says which tab stops are set or cleared.
 ghost use Rattle.std.specs.Prelude.{◌≡◌};
 ghost use Rattle.typed_functions.specs.Choices.{cursor_tabulation_control_at, cursor_tabulation_control_number};
 
-/// Which tab stops are set or cleared (ECMA-48, 8.3.17, CTC).
+/// Says which tab stops are set or cleared (ECMA-48, 8.3.17, CTC).
 #[derive(Clone, Copy, Debug, PartialEq, Eq)]
 pub enum CursorTabulationControl {
     /// 0: one is set at the cursor.
@@ -22,7 +22,7 @@ pub enum CursorTabulationControl {
 }
 
 impl CursorTabulationControl {
-    /// Its number.
+    /// Returns its number.
     #[inline]
     pub fn number(self) -> u8
         ensures { result ≡ cursor_tabulation_control_number self }
@@ -30,7 +30,7 @@ impl CursorTabulationControl {
         self as u8
     }
 
-    /// The choice of a number, if there is one.
+    /// Returns the choice of a number, if there is one.
     #[inline]
     pub fn of_number(number: u8) -> Option<CursorTabulationControl>
         ensures { result ≡ cursor_tabulation_control_at number }

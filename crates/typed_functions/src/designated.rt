@@ -14,7 +14,7 @@ use crate::pair_charset::PairCharset;
 use crate::unfit::Unfit;
 use control_functions::EscapeFunction;
 
-// The request of a function with this final byte.
+// Returns the request of a function with this final byte.
 pub(crate) fn of_function<'a>(function: EscapeFunction, last: u8) -> Function<'a>
     ensures { value_of result ≡ of_function (Some function) last }
 {
@@ -27,7 +27,7 @@ pub(crate) fn of_function<'a>(function: EscapeFunction, last: u8) -> Function<'a
     }
 }
 
-// The set that it designates.
+// Returns the set that it designates.
 fn designated(function: EscapeFunction, last: u8) -> Result<Charset, Unfit>
     ensures { result ≡ designated function last }
 {
@@ -68,7 +68,7 @@ fn designated(function: EscapeFunction, last: u8) -> Result<Charset, Unfit>
     }
 }
 
-// The set of several bytes that this final byte designates after `ESC $` alone.
+// Returns the set of several bytes that this final byte designates after `ESC $` alone.
 fn short_at(last: u8) -> Option<MultibyteCharset>
     ensures { result ≡ short_at last }
 {
@@ -79,7 +79,7 @@ fn short_at(last: u8) -> Option<MultibyteCharset>
     }
 }
 
-// The request of a function with this second intermediate and this final byte.
+// Returns the request of a function with this second intermediate and this final byte.
 pub(crate) fn of_two<'a>(function: EscapeFunction, second: u8, last: u8) -> Function<'a>
     ensures { value_of result ≡ of_two (Some function) second last }
 {
@@ -89,7 +89,7 @@ pub(crate) fn of_two<'a>(function: EscapeFunction, second: u8, last: u8) -> Func
     }
 }
 
-// The set that it designates.
+// Returns the set that it designates.
 fn designated_by_two(function: EscapeFunction, second: u8, last: u8) -> Result<Charset, Unfit>
     ensures { result ≡ designated_by_two function second last }
 {
@@ -114,7 +114,7 @@ fn designated_by_two(function: EscapeFunction, second: u8, last: u8) -> Result<C
     }
 }
 
-// The set of several bytes that it designates.
+// Returns the set of several bytes that it designates.
 fn multibyte(function: EscapeFunction, last: u8) -> Result<Charset, Unfit>
     ensures { result ≡ multibyte_designated function last }
 {

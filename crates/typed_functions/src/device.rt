@@ -36,7 +36,7 @@ impl fmt::Display for Device {
     }
 }
 
-// How it is spelled.
+// Returns its spelling.
 fn device_spelling(device: Device) -> Spelling
     ensures { result ≡ device_spelling device }
 {

@@ -58,7 +58,7 @@ impl fmt::Display for Edit {
     }
 }
 
-// How it is spelled.
+// Returns its spelling.
 fn edit_spelling(edit: Edit) -> Spelling
     ensures { result ≡ edit_spelling edit }
 {

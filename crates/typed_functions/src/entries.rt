@@ -8,7 +8,7 @@ use esc_values::CsiParam;
 use esc_values::number::write_number;
 use std::fmt;
 
-// A number of at most 255.
+// Returns a number of at most 255.
 #[inline]
 pub(crate) fn byte_of(entry: CsiParam) -> Option<u8>
     ensures { result ≡ byte_of entry }
@@ -22,7 +22,7 @@ pub(crate) fn byte_of(entry: CsiParam) -> Option<u8>
     }
 }
 
-// Whether it is this byte.
+// Returns whether it is this byte.
 #[inline]
 pub(crate) fn is_byte(byte: u8, entry: CsiParam) -> bool
     ensures { result ≡ is_byte byte entry }
@@ -33,7 +33,7 @@ pub(crate) fn is_byte(byte: u8, entry: CsiParam) -> bool
     }
 }
 
-// The number after a separator, at most 255, and the rest.
+// Returns the number after a separator, at most 255, and the rest.
 pub(crate) fn byte_after(separator: u8, entries: &[CsiParam]) -> Option<(u8, &[CsiParam])>
     ensures some { IfSome result (λ p. byte_after separator entries.now ≡ Some (p.0, p.1.now)) }
     ensures none { IfNone result (byte_after separator entries.now ≡ None) }

@@ -16,7 +16,7 @@ pub enum EraseInDisplay {
 }
 
 impl EraseInDisplay {
-    /// Its number.
+    /// Returns its number.
     #[inline]
     pub fn number(self) -> u8
         ensures { result ≡ erase_in_display_number self }
@@ -24,7 +24,7 @@ impl EraseInDisplay {
         self as u8
     }
 
-    /// The choice of a number, if there is one.
+    /// Returns the choice of a number, if there is one.
     #[inline]
     pub fn of_number(number: u8) -> Option<EraseInDisplay>
         ensures { result ≡ erase_in_display_at number }

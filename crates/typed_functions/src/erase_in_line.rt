@@ -14,7 +14,7 @@ pub enum EraseInLine {
 }
 
 impl EraseInLine {
-    /// Its number.
+    /// Returns its number.
     #[inline]
     pub fn number(self) -> u8
         ensures { result ≡ erase_in_line_number self }
@@ -22,7 +22,7 @@ impl EraseInLine {
         self as u8
     }
 
-    /// The choice of a number, if there is one.
+    /// Returns the choice of a number, if there is one.
     #[inline]
     pub fn of_number(number: u8) -> Option<EraseInLine>
         ensures { result ≡ erase_in_line_at number }

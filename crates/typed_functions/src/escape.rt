@@ -135,7 +135,7 @@ pub enum Escape {
 }
 
 impl Escape {
-    /// The escape sequence that asks for it.
+    /// Returns the escape sequence that asks for it.
     pub fn sequence(self) -> Esc
         ensures { result ≡ escape_sequence self }
     {
@@ -143,7 +143,7 @@ impl Escape {
         Esc::parse(intermediate, last)
     }
 
-    // Its intermediate, if there is one, and its final byte.
+    // Returns its intermediate, if there is one, and its final byte.
     fn bytes(self) -> (Option<u8>, u8)
         ensures { result ≡ escape_bytes self }
     {

@@ -140,27 +140,27 @@ static FUNCTIONS: [EscapeFunction; 59] = escapes!(functions);
 static NAMES: [&str; 59] = escapes!(names);
 
 impl Escape {
-    /// The typed value of a function of escape sequences, if it has one.
+    /// Returns the typed value of a function of escape sequences, if it has one.
     pub fn of_function(function: EscapeFunction) -> Option<Escape>
         ensures { result ≡ escape_of function }
     {
         ESCAPES[function_place(function)]
     }
 
-    /// Its function.
+    /// Returns its function.
     pub fn function(self) -> EscapeFunction
         ensures { result ≡ function_for self }
     {
         FUNCTIONS[place(self)]
     }
 
-    // Its name.
+    // Returns its name.
     pub(crate) fn name(self) -> &'static str {
         NAMES[place(self)]
     }
 }
 
-// The place of a function in its table.
+// Returns the place of a function in its table.
 #[inline(always)]
 fn function_place(function: EscapeFunction) -> usize
     ensures place { result ≡ function_place function }
@@ -169,7 +169,7 @@ fn function_place(function: EscapeFunction) -> usize
     function as usize
 }
 
-// The place of a typed value in its table.
+// Returns the place of a typed value in its table.
 #[inline(always)]
 fn place(escape: Escape) -> usize
     ensures place { result ≡ place escape }

@@ -30,7 +30,7 @@ pub enum Font {
 }
 
 impl Font {
-    // Its number, from 0 to 10.
+    // Returns its number, from 0 to 10.
     #[inline]
     pub(crate) fn number(self) -> u8
         ensures number { result ≡ font_number self }
@@ -39,7 +39,7 @@ impl Font {
         self as u8
     }
 
-    // The font of a number from 0 to 10; Fraktur for any other.
+    // Returns the font of a number from 0 to 10; Fraktur for any other.
     #[inline]
     pub(crate) fn at(number: u8) -> Font
         ensures { result ≡ font_at number }

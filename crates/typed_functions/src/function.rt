@@ -59,15 +59,15 @@ pub enum Function<'a> {
     Mode(ModeChange, Modes<'a>),
     /// Tab stops are set or cleared, by several choices. One choice is that of a `Cursor`.
     Tabs(TabChange, Modes<'a>),
-    /// How characters are shown from here on.
+    /// Says how characters are shown from here on.
     Sgr(Renditions<'a>),
     /// It has no typed value, and stays the sequence that it is.
     Other(Unfit),
 }
 
 impl<'a> Function<'a> {
-    /// The request of this control sequence. If entries of it were left out, since it had more than
-    /// are kept, it is the result of [`of_kept`](Function::of_kept).
+    /// Returns the request of this control sequence. If entries of it were left out, since it had
+    /// more than are kept, it is the result of [`of_kept`](Function::of_kept).
     pub fn of<A: Allocator>(csi: &'a CSI<A>) -> Function<'a>
         ensures { value_of result ≡ of_csi (csi_value csi.now) }
     {
@@ -84,7 +84,7 @@ impl<'a> Function<'a> {
         }
     }
 
-    /// The request of a control sequence with all of these parameters and this final byte.
+    /// Returns the request of a control sequence with all of these parameters and this final byte.
     pub fn of_params(params: &'a [CsiParam], last: u8) -> Function<'a>
         ensures { value_of result ≡ of_params params.now last }
     {
@@ -94,10 +94,10 @@ impl<'a> Function<'a> {
         }
     }
 
-    /// The request of a control sequence with more parameters than these, which were kept, and this
-    /// final byte. An intermediate may be among those that were left out, so its function is not
-    /// known; but with the final byte `m` the renditions are read that are whole, those before the
-    /// last `;`, as terminals read the first ones.
+    /// Returns the request of a control sequence with more parameters than these, which were kept,
+    /// and this final byte. An intermediate may be among those that were left out, so its function
+    /// is not known; but with the final byte `m` the renditions are read that are whole, those
+    /// before the last `;`, as terminals read the first ones.
     pub fn of_kept(params: &'a [CsiParam], last: u8) -> Function<'a>
         ensures { value_of result ≡ of_kept params.now last }
     {
@@ -110,7 +110,7 @@ impl<'a> Function<'a> {
         }
     }
 
-    /// The request of this escape sequence.
+    /// Returns the request of this escape sequence.
     pub fn of_escape(esc: Esc) -> Function<'a>
         ensures { value_of result ≡ of_escape esc }
     {
@@ -125,8 +125,8 @@ impl<'a> Function<'a> {
         }
     }
 
-    /// The request of an escape sequence with this intermediate, if there is one, and this final
-    /// byte.
+    /// Returns the request of an escape sequence with this intermediate, if there is one, and this
+    /// final byte.
     pub fn of_escape_bytes(intermediate: Option<u8>, last: u8) -> Function<'a>
         ensures { value_of result ≡ of_bytes intermediate last }
     {
@@ -136,8 +136,8 @@ impl<'a> Function<'a> {
         }
     }
 
-    /// The request of an escape sequence with all of these intermediates and this final byte. If
-    /// there are two, both count, as in `ESC $ ) C` and `ESC ( % 6`.
+    /// Returns the request of an escape sequence with all of these intermediates and this final
+    /// byte. If there are two, both count, as in `ESC $ ) C` and `ESC ( % 6`.
     pub fn of_intermediates(intermediates: &[u8], last: u8) -> Function<'a>
         ensures { value_of result ≡ of_intermediates intermediates.now last }
     {
@@ -153,8 +153,8 @@ impl<'a> Function<'a> {
         }
     }
 
-    /// The request of a C1 control, 80 to 9F (hexadecimal): the same as ESC and the byte 40 less
-    /// (ECMA-48, 5.3). Any other code has no name.
+    /// Returns the request of a C1 control, 80 to 9F (hexadecimal): the same as ESC and the byte 40
+    /// less (ECMA-48, 5.3). Any other code has no name.
     pub fn of_c1(code: u8) -> Function<'a>
         ensures { value_of result ≡ of_c1 code }
     {
@@ -166,7 +166,7 @@ impl<'a> Function<'a> {
     }
 }
 
-// The request of a function with these parameters.
+// Returns the request of a function with these parameters.
 fn of_function(function: ControlFunction, params: &[CsiParam]) -> Function<'_>
     ensures { value_of result ≡ of_named (Some function) params.now }
 {
@@ -184,7 +184,7 @@ fn of_function(function: ControlFunction, params: &[CsiParam]) -> Function<'_>
     }
 }
 
-// The value of one choice, or of several.
+// Returns the value of one choice, or of several.
 fn several(function: ControlFunction, params: &[CsiParam]) -> Function<'_>
     ensures { value_of result ≡ several function params.now (arguments Kind.Selector params.now) }
 {
@@ -195,7 +195,7 @@ fn several(function: ControlFunction, params: &[CsiParam]) -> Function<'_>
     }
 }
 
-// The value of a function with these parameters.
+// Returns the value of a function with these parameters.
 fn made<'a>(function: ControlFunction, arguments: Arguments) -> Function<'a>
     ensures { value_of result ≡ made function arguments }
 {
@@ -211,7 +211,7 @@ fn made<'a>(function: ControlFunction, arguments: Arguments) -> Function<'a>
     }
 }
 
-// The parameters of a rendition that was read alone.
+// Returns the parameters of a rendition that was read alone.
 fn known_entries(sgr: Sgr) -> &'static [CsiParam]
     ensures { result.now ≡ known_entries sgr }
 {

@@ -1,6 +1,6 @@
 //! Marks of ideograms.
 
-/// How ideograms are marked (ECMA-48, 8.3.117, SGR: parameters 60 to 65).
+/// Says how ideograms are marked (ECMA-48, 8.3.117, SGR: parameters 60 to 65).
 #[derive(Clone, Copy, Debug, PartialEq, Eq)]
 pub enum Ideogram {
     /// SGR 60: a line below, or on the right side.

@@ -7,7 +7,8 @@ use crate::entries::is_byte;
 use crate::renditions::len_before;
 use esc_values::CsiParam;
 
-// The entries before the last `;`: those of items that are whole, if more entries came after these.
+// Returns the entries before the last `;`: those of items that are whole, if more entries came
+// after these.
 // `None` if there is no `;`.
 pub(crate) fn whole_entries(entries: &[CsiParam]) -> Option<&[CsiParam]>
     ensures { option_map (λ x. x.now) result ≡ whole_entries entries.now }
@@ -20,7 +21,7 @@ pub(crate) fn whole_entries(entries: &[CsiParam]) -> Option<&[CsiParam]>
     }
 }
 
-// How many `;` there are.
+// Returns how many `;` there are.
 fn separator_count(entries: &[CsiParam]) -> usize
     ensures same { result ≡ separator_count entries.now }
     ensures few { result ≤ length entries.now }

@@ -34,7 +34,7 @@ impl fmt::Display for Keyboard {
     }
 }
 
-// How it is spelled.
+// Returns its spelling.
 fn keyboard_spelling(keyboard: Keyboard) -> Spelling
     ensures { result ≡ keyboard_spelling keyboard }
 {

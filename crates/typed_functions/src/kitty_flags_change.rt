@@ -14,7 +14,7 @@ pub enum KittyFlagsChange {
 }
 
 impl KittyFlagsChange {
-    /// Its number.
+    /// Returns its number.
     #[inline]
     pub fn number(self) -> u8
         ensures { result ≡ kitty_flags_change_number self }
@@ -22,7 +22,7 @@ impl KittyFlagsChange {
         self as u8
     }
 
-    /// The choice of a number, if there is one.
+    /// Returns the choice of a number, if there is one.
     #[inline]
     pub fn of_number(number: u8) -> Option<KittyFlagsChange>
         ensures { result ≡ kitty_flags_change_at number }

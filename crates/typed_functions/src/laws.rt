@@ -27,7 +27,7 @@ pub fn nothing_lost()
     ensures { (es : List CsiParam) → joined_entries (cut_entries es) ≡ es }
 {}
 
-/// The same for the modes of a sequence.
+/// Does the same for the modes of a sequence.
 #[tactic(auto, using(crate::proofs::Cutting::no_mode_lost))]
 pub fn no_mode_lost()
     ensures { (es : List CsiParam) → joined_entries (parameters es) ≡ es }

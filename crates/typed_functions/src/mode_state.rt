@@ -18,7 +18,7 @@ pub enum ModeState {
 }
 
 impl ModeState {
-    /// Its number.
+    /// Returns its number.
     #[inline]
     pub fn number(self) -> u8
         ensures { result ≡ mode_state_number self }
@@ -26,7 +26,7 @@ impl ModeState {
         self as u8
     }
 
-    /// The state of a number, if there is one.
+    /// Returns the state of a number, if there is one.
     #[inline]
     pub fn of_number(number: u32) -> Option<ModeState>
         ensures { result ≡ mode_state_at number }

@@ -32,7 +32,7 @@ impl fmt::Display for ModeStatus {
     }
 }
 
-// How it is spelled.
+// Returns its spelling.
 fn mode_status_spelling(status: ModeStatus) -> Spelling
     ensures { result ≡ mode_status_spelling status }
 {

@@ -16,7 +16,7 @@ pub struct Modes<'a> {
 }
 
 impl<'a> Modes<'a> {
-    // The modes of these parameters, which have no private prefix.
+    // Returns the modes of these parameters, which have no private prefix.
     pub(crate) fn new(params: &'a [CsiParam]) -> Self
         ensures { modes_left result ≡ mode_numbers params.now }
     {
@@ -50,7 +50,7 @@ impl<'a> Iterator for Modes<'a> {
 
 impl<'a> FusedIterator for Modes<'a> {}
 
-// The number of a parameter, if it is one.
+// Returns the number of a parameter, if it is one.
 fn mode_number(entries: &[CsiParam]) -> Option<u64>
     ensures { result ≡ mode_number entries.now }
 {

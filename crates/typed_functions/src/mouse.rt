@@ -36,7 +36,7 @@ impl fmt::Display for Mouse {
     }
 }
 
-// How it is spelled.
+// Returns its spelling.
 fn mouse_spelling(mouse: Mouse) -> Spelling
     ensures { result ≡ mouse_spelling mouse }
 {

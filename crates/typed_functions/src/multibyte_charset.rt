@@ -40,7 +40,7 @@ pub enum MultibyteCharset {
 }
 
 impl MultibyteCharset {
-    /// The final byte that names it.
+    /// Returns the final byte that names it.
     #[inline]
     pub fn final_byte(self) -> u8
         ensures { result ≡ multibyte_byte self }
@@ -48,15 +48,15 @@ impl MultibyteCharset {
         self as u8
     }
 
-    /// Whether `ESC $` and the final byte alone designate it as G0, as before there were others
-    /// (ECMA-35, 14.3.2.2).
+    /// Returns whether `ESC $` and the final byte alone designate it as G0, as before there were
+    /// others (ECMA-35, 14.3.2.2).
     pub fn is_short(self) -> bool
         ensures { result ≡ is_short self }
     {
         self.final_byte() <= b'B'
     }
 
-    /// The set that a final byte names, if there is one.
+    /// Returns the set that a final byte names, if there is one.
     pub fn of_final_byte(byte: u8) -> Option<MultibyteCharset>
         ensures { result ≡ multibyte_at byte }
     {

@@ -12,7 +12,7 @@ use crate::rendition::Rendition;
 use crate::vertical_align::VerticalAlign;
 use esc_sequences::{Intensity, Underline};
 
-// The rendition of a number alone.
+// Returns the rendition of a number alone.
 pub(crate) fn numbered(number: u8) -> Option<Rendition>
     ensures { result ≡ numbered number }
 {
@@ -26,7 +26,7 @@ pub(crate) fn numbered(number: u8) -> Option<Rendition>
     }
 }
 
-// Those of 0 to 9.
+// Returns the rendition of a number from 0 to 9.
 fn switched_on(number: u8) -> Option<Rendition>
     ensures { result ≡ switched_on number }
 {
@@ -45,7 +45,7 @@ fn switched_on(number: u8) -> Option<Rendition>
     }
 }
 
-// Those of 21 to 29.
+// Returns the rendition of a number from 21 to 29.
 fn switched_off(number: u8) -> Option<Rendition>
     ensures { result ≡ switched_off number }
 {
@@ -63,7 +63,7 @@ fn switched_off(number: u8) -> Option<Rendition>
     }
 }
 
-// Those of 50 to 75.
+// Returns the rendition of a number from 50 to 75.
 fn decorated(number: u8) -> Option<Rendition>
     ensures { result ≡ decorated number }
 {
@@ -88,7 +88,7 @@ fn decorated(number: u8) -> Option<Rendition>
     }
 }
 
-// Those of 30 to 49, but for 38 and 48, which more follows.
+// Returns the rendition of a number from 30 to 49 but 38 and 48, which more follows.
 fn painted(number: u8) -> Option<Rendition>
     ensures { result ≡ painted number }
 {
@@ -101,7 +101,7 @@ fn painted(number: u8) -> Option<Rendition>
     }
 }
 
-// Those of 90 to 107.
+// Returns the rendition of a number from 90 to 107.
 fn bright(number: u8) -> Option<Rendition>
     ensures { result ≡ bright number }
 {
@@ -112,7 +112,7 @@ fn bright(number: u8) -> Option<Rendition>
     }
 }
 
-// The number that asks for a rendition, if one does.
+// Returns the number that asks for a rendition, if one does.
 pub(crate) fn number_of(rendition: Rendition) -> Option<u8>
     ensures { result ≡ number_of rendition }
 {
@@ -165,7 +165,7 @@ pub(crate) fn number_of(rendition: Rendition) -> Option<u8>
     Some(number)
 }
 
-// The number of a colour, from the number of black on: the bright ones are 60 more.
+// Returns the number of a colour, from the number of black on: the bright ones are 60 more.
 fn ansi_number(black: u8, color: AnsiColor) -> u8
     requires { black ≤ 40 }
     ensures { result ≡ ansi_number black (ansi_color_number color) }

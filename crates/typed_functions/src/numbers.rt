@@ -1,4 +1,4 @@
-//! How the parameters of a control function are read.
+//! This module says how the parameters of a control function are read.
 ghost use Rattle.std.specs.Prelude.{◌≡◌, Some, Ok, Err, IfOk, IfErr};
 ghost use Rattle.std.specs.Option.{option_map};
 ghost use Rattle.std.specs.List.{list_all};
@@ -9,7 +9,7 @@ use crate::one_based::Ordinal;
 use crate::unfit::Unfit;
 use esc_values::CsiParam;
 
-// The parameters of a kind.
+// Returns the parameters of a kind.
 pub(crate) fn arguments(kind: Kind, entries: &[CsiParam]) -> Result<Arguments, Unfit>
     ensures { result ≡ arguments kind entries.now }
 {
@@ -42,7 +42,7 @@ pub(crate) fn arguments(kind: Kind, entries: &[CsiParam]) -> Result<Arguments, U
     }
 }
 
-// No parameter.
+// Returns no parameter.
 fn no_number(number: Option<u64>) -> Result<Arguments, Unfit>
     ensures { result ≡ no_number number }
 {
@@ -52,7 +52,7 @@ fn no_number(number: Option<u64>) -> Result<Arguments, Unfit>
     }
 }
 
-// No parameter, or 0.
+// Returns no parameter, or 0.
 fn zero(number: Option<u64>) -> Result<Arguments, Unfit>
     ensures { result ≡ zero number }
 {
@@ -62,7 +62,7 @@ fn zero(number: Option<u64>) -> Result<Arguments, Unfit>
     }
 }
 
-// A count, a line or a column.
+// Returns a count, a line or a column.
 fn count(number: Option<u64>) -> Result<Arguments, Unfit>
     ensures { result ≡ count number }
 {
@@ -72,7 +72,7 @@ fn count(number: Option<u64>) -> Result<Arguments, Unfit>
     }
 }
 
-// A line and a column.
+// Returns a line and a column.
 fn place(line: Option<u64>, col: Option<u64>) -> Result<Arguments, Unfit>
     ensures { result ≡ place line col }
 {
@@ -85,7 +85,7 @@ fn place(line: Option<u64>, col: Option<u64>) -> Result<Arguments, Unfit>
     }
 }
 
-// The first and the last line or column.
+// Returns the first and the last line or column.
 fn margins(first: Option<u64>, last: Option<u64>) -> Result<Arguments, Unfit>
     ensures { result ≡ margins first last }
 {
@@ -95,7 +95,7 @@ fn margins(first: Option<u64>, last: Option<u64>) -> Result<Arguments, Unfit>
     Ok(Arguments::Margins(first, last_of(last)?))
 }
 
-// The last line or column, if there is one.
+// Returns the last line or column, if there is one.
 fn last_of(number: Option<u64>) -> Result<Option<Ordinal>, Unfit>
     ensures { result ≡ last_of number }
 {
@@ -108,7 +108,7 @@ fn last_of(number: Option<u64>) -> Result<Option<Ordinal>, Unfit>
     }
 }
 
-// A choice.
+// Returns a choice.
 fn selector(number: Option<u64>) -> Result<Arguments, Unfit>
     ensures { result ≡ selector number }
 {
@@ -121,7 +121,7 @@ fn selector(number: Option<u64>) -> Result<Arguments, Unfit>
     }
 }
 
-// A number of at most 255, or its default.
+// Returns a number of at most 255, or its default.
 fn byte_or(default: u8, number: Option<u64>) -> Result<u8, Unfit>
     ensures { result ≡ byte_or default number }
 {
@@ -144,7 +144,7 @@ fn flags(bits: Option<u64>, change: Option<u64>) -> Result<Arguments, Unfit>
     Ok(Arguments::Flags(bits, byte_or(1, change)?))
 }
 
-// A button, a column and a line.
+// Returns a button, a column and a line.
 fn report(button: Option<u64>, col: Option<u64>, line: Option<u64>) -> Result<Arguments, Unfit>
     ensures { result ≡ report button col line }
 {
@@ -160,7 +160,7 @@ fn report(button: Option<u64>, col: Option<u64>, line: Option<u64>) -> Result<Ar
     }
 }
 
-// A number of at most 2 to the power of 32, less 1.
+// Returns a number of at most 2 to the power of 32, less 1.
 fn word(number: u64) -> Result<u32, Unfit>
     ensures { result ≡ word number }
 {
@@ -204,7 +204,7 @@ fn more_words(
     }
 }
 
-// The only three parameters.
+// Returns the only three parameters.
 fn three(entries: &[CsiParam]) -> Result<(Option<u64>, Option<u64>, Option<u64>), Unfit>
     ensures { result ≡ three entries.now }
 {
@@ -218,7 +218,7 @@ fn three(entries: &[CsiParam]) -> Result<(Option<u64>, Option<u64>, Option<u64>)
     }
 }
 
-// The only parameter.
+// Returns the only parameter.
 fn one(entries: &[CsiParam]) -> Result<Option<u64>, Unfit>
     ensures { result ≡ one entries.now }
 {
@@ -229,7 +229,7 @@ fn one(entries: &[CsiParam]) -> Result<Option<u64>, Unfit>
     }
 }
 
-// The only two parameters.
+// Returns the only two parameters.
 fn two(entries: &[CsiParam]) -> Result<(Option<u64>, Option<u64>), Unfit>
     ensures { result ≡ two entries.now }
 {
@@ -240,7 +240,7 @@ fn two(entries: &[CsiParam]) -> Result<(Option<u64>, Option<u64>), Unfit>
     }
 }
 
-// The next parameter, a number or nothing, and the rest after its `;`.
+// Returns the next parameter, a number or nothing, and the rest after its `;`.
 fn next(entries: &[CsiParam]) -> Result<(Option<u64>, Option<&[CsiParam]>), Unfit>
     ensures ok { IfOk result (λ p.
         next entries.now ≡ Ok (p.0, option_map (λ es. es.now) p.1)) }
@@ -250,7 +250,7 @@ fn next(entries: &[CsiParam]) -> Result<(Option<u64>, Option<&[CsiParam]>), Unfi
     Ok((number, more(rest)?))
 }
 
-// The first number, if one comes first, and the rest.
+// Returns the first number, if one comes first, and the rest.
 fn number_first(entries: &[CsiParam]) -> (Option<u64>, &[CsiParam])
     ensures { number_first entries.now ≡ (result.0, result.1.now) }
 {
@@ -266,7 +266,7 @@ fn number_first(entries: &[CsiParam]) -> (Option<u64>, &[CsiParam])
     }
 }
 
-// The rest after a number: intermediates alone, or `;` and more.
+// Returns the rest after a number: intermediates alone, or `;` and more.
 fn more(entries: &[CsiParam]) -> Result<Option<&[CsiParam]>, Unfit>
     ensures ok { IfOk result (λ o. more entries.now ≡ Ok (option_map (λ es. es.now) o)) }
     ensures err { IfErr result (λ u. more entries.now ≡ Err u) }
@@ -281,7 +281,7 @@ fn more(entries: &[CsiParam]) -> Result<Option<&[CsiParam]>, Unfit>
     }
 }
 
-// Whether all are intermediates.
+// Returns whether all are intermediates.
 fn are_intermediates(entries: &[CsiParam]) -> bool
     ensures { result ≡ list_all is_intermediate entries.now }
 {
@@ -293,7 +293,7 @@ fn are_intermediates(entries: &[CsiParam]) -> bool
     true
 }
 
-// Whether it is an intermediate.
+// Returns whether it is an intermediate.
 fn is_intermediate(entry: CsiParam) -> bool
     ensures { result ≡ is_intermediate entry }
 {
@@ -303,7 +303,7 @@ fn is_intermediate(entry: CsiParam) -> bool
     }
 }
 
-// The entries after a private prefix.
+// Returns the entries after a private prefix.
 pub(crate) fn after_prefix(entries: &[CsiParam]) -> &[CsiParam]
     ensures { result.now ≡ after_prefix entries.now }
 {

@@ -13,7 +13,7 @@ pub struct Ordinal {
 }
 
 impl Ordinal {
-    /// The number with this place, counted from 0, which is the place of 1.
+    /// Returns the number with this place, counted from 0, which is the place of 1.
     #[inline]
     pub fn from_zero_based(place: u32) -> Ordinal
         ensures { one_based result ≡ place + 1 }
@@ -21,7 +21,7 @@ impl Ordinal {
         Ordinal { zero_based: place }
     }
 
-    /// Its place, counted from 0, which is the place of 1.
+    /// Returns its place, counted from 0, which is the place of 1.
     #[inline]
     pub fn as_zero_based(self) -> u32
         ensures { result + 1 ≡ one_based self }
@@ -29,7 +29,7 @@ impl Ordinal {
         self.zero_based
     }
 
-    /// The number, from 1 on.
+    /// Returns the number, from 1 on.
     #[inline]
     pub fn as_one_based(self) -> u64
         ensures { result ≡ one_based self }
@@ -37,7 +37,7 @@ impl Ordinal {
         self.zero_based as u64 + 1
     }
 
-    // The number of a parameter; nothing and 0 are 1; `None` if it is too large.
+    // Returns the number of a parameter; nothing and 0 are 1; `None` if it is too large.
     #[inline]
     pub(crate) fn of_number(number: Option<u64>) -> Option<Ordinal>
         ensures { result ≡ one_based_of number }

@@ -31,7 +31,7 @@ pub enum PairCharset {
 }
 
 impl PairCharset {
-    /// The intermediate that names it, before the final byte.
+    /// Returns the intermediate that names it, before the final byte.
     pub fn intermediate(self) -> u8
         ensures { result ≡ pair_first self }
     {
@@ -50,7 +50,7 @@ impl PairCharset {
         }
     }
 
-    /// The final byte that names it.
+    /// Returns the final byte that names it.
     pub fn final_byte(self) -> u8
         ensures { result ≡ pair_last self }
     {
@@ -69,7 +69,7 @@ impl PairCharset {
         }
     }
 
-    /// The set that an intermediate and a final byte name, if there is one.
+    /// Returns the set that an intermediate and a final byte name, if there is one.
     pub fn of_bytes(intermediate: u8, last: u8) -> Option<PairCharset>
         ensures { result ≡ pair_at intermediate last }
     {

@@ -64,8 +64,8 @@ pub enum Rendition {
 }
 
 impl Rendition {
-    /// The rendition of its entries, which are those between two `;`, or, for a colour after 38, 48
-    /// or 58, those up to the `;` after its last number. `None` if none is known.
+    /// Returns the rendition of its entries, which are those between two `;`, or, for a colour
+    /// after 38, 48 or 58, those up to the `;` after its last number. `None` if none is known.
     #[inline]
     pub fn of_entries(entries: &[CsiParam]) -> Option<Rendition>
         ensures { result ≡ rendition_of entries.now }
@@ -80,7 +80,7 @@ impl Rendition {
     }
 }
 
-// The rendition of a number and the entries after it.
+// Returns the rendition of a number and the entries after it.
 fn with_more(number: u8, rest: &[CsiParam]) -> Option<Rendition>
     ensures { result ≡ with_more number rest.now }
 {
@@ -102,7 +102,7 @@ fn with_more(number: u8, rest: &[CsiParam]) -> Option<Rendition>
     }
 }
 
-// Whether a colour follows this number.
+// Returns whether a colour follows this number.
 #[inline]
 pub(crate) fn is_target(number: u8) -> bool
     ensures { result ≡ is_target number }
@@ -110,7 +110,7 @@ pub(crate) fn is_target(number: u8) -> bool
     number == 38 || number == 48 || number == 58
 }
 
-// The rendition of this colour after this number.
+// Returns the rendition of this colour after this number.
 fn on_target(number: u8, color: ColorSpec) -> Rendition
     ensures { result ≡ on_target number color }
 {
@@ -123,7 +123,7 @@ fn on_target(number: u8, color: ColorSpec) -> Rendition
     }
 }
 
-// The underline by the entries after 4.
+// Returns the underline by the entries after 4.
 fn underlined(entries: &[CsiParam]) -> Option<Underline>
     ensures { result ≡ underlined entries.now }
 {
@@ -137,7 +137,7 @@ fn underlined(entries: &[CsiParam]) -> Option<Underline>
     }
 }
 
-// The kind of underline of this number after `4:`.
+// Returns the kind of underline of this number after `4:`.
 fn underline_at(number: u8) -> Option<Underline>
     ensures { result ≡ underline_at number }
 {
@@ -152,7 +152,7 @@ fn underline_at(number: u8) -> Option<Underline>
     }
 }
 
-// The number of a kind of underline after `4:`.
+// Returns the number of a kind of underline after `4:`.
 fn underline_number(kind: Underline) -> u8
     ensures { result ≡ underline_number kind }
 {

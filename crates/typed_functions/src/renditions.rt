@@ -22,7 +22,7 @@ pub struct Renditions<'a> {
 }
 
 impl<'a> Renditions<'a> {
-    /// The renditions of these parameters.
+    /// Returns the renditions of these parameters.
     pub fn new(params: &'a [CsiParam]) -> Self
         ensures { left result ≡ selections params.now }
     {
@@ -56,7 +56,7 @@ impl<'a> Iterator for Renditions<'a> {
 
 impl<'a> FusedIterator for Renditions<'a> {}
 
-// The rest after so many entries and a `;`, if there is more.
+// Returns the rest after so many entries and a `;`, if there is more.
 pub(crate) fn after(entries: &[CsiParam], len: usize) -> Option<&[CsiParam]>
     requires { len ≤ length entries.now }
     ensures { option_map (λ x. x.now) result
@@ -69,7 +69,7 @@ pub(crate) fn after(entries: &[CsiParam], len: usize) -> Option<&[CsiParam]>
     }
 }
 
-// How many entries the first rendition has.
+// Returns how many entries the first rendition has.
 fn first_len(entries: &[CsiParam]) -> usize
     ensures len { result ≡ first_len entries.now }
     ensures few { result ≤ length entries.now }
@@ -77,7 +77,7 @@ fn first_len(entries: &[CsiParam]) -> usize
     len_before(separators(entries), entries)
 }
 
-// The number of entries before the `;` after so many others, or in all if there is none.
+// Returns the number of entries before the `;` after so many others, or in all if there is none.
 pub(crate) fn len_before(count: usize, entries: &[CsiParam]) -> usize
     ensures len { result ≡ len_before count entries.now }
     ensures few { result ≤ length entries.now }
@@ -96,7 +96,7 @@ pub(crate) fn len_before(count: usize, entries: &[CsiParam]) -> usize
     len
 }
 
-// How many `;` the entries of the first rendition have.
+// Returns how many `;` the entries of the first rendition have.
 fn separators(entries: &[CsiParam]) -> usize
     ensures { result ≡ separators entries.now }
 {
@@ -115,7 +115,7 @@ fn separators(entries: &[CsiParam]) -> usize
     }
 }
 
-// Those after 38, 48 or 58.
+// Returns the number of separators after 38, 48 or 58.
 fn more_separators(rest: &[CsiParam]) -> usize
     ensures { result ≡ more_separators rest.now }
 {
@@ -129,7 +129,7 @@ fn more_separators(rest: &[CsiParam]) -> usize
     }
 }
 
-// Those of a colour, of its kind and its numbers.
+// Returns the number of separators of a colour: of its kind and its numbers.
 fn color_separators(rest: &[CsiParam]) -> usize
     ensures { result ≡ color_separators rest.now }
 {

@@ -1,4 +1,4 @@
-//! How a typed value is spelled.
+//! This module says how a typed value is spelled.
 ghost use Rattle.std.specs.Prelude.{◌≡◌, ◌∷◌, ◌++◌, Some, false};
 ghost use Rattle.std.specs.Fmt.{DisplaysOnOk};
 ghost use Rattle.esc_values.specs.Params.{csi_params_text};
@@ -24,7 +24,7 @@ pub(crate) struct Spelling {
 }
 
 impl Spelling {
-    // One without private prefix and intermediate.
+    // Returns a spelling without private prefix and intermediate.
     pub(crate) fn plain(arguments: Arguments, last: u8) -> Spelling
         ensures { result ≡ plain arguments last }
     {
@@ -36,7 +36,7 @@ impl Spelling {
         }
     }
 
-    // One with a private prefix.
+    // Returns a spelling with a private prefix.
     pub(crate) fn private(prefix: u8, arguments: Arguments, last: u8) -> Spelling
         ensures { result ≡ private prefix arguments last }
     {
@@ -48,7 +48,7 @@ impl Spelling {
         }
     }
 
-    // One with an intermediate.
+    // Returns a spelling with an intermediate.
     pub(crate) fn between(arguments: Arguments, intermediate: u8, last: u8) -> Spelling
         ensures { result ≡ between arguments intermediate last }
     {
@@ -60,7 +60,7 @@ impl Spelling {
         }
     }
 
-    // One with both.
+    // Returns a spelling with both.
     pub(crate) fn private_between(
         prefix: u8,
         arguments: Arguments,
@@ -130,7 +130,7 @@ fn write_arguments<W: fmt::Write>(arguments: Arguments, f: &mut fmt::Formatter<W
     }
 }
 
-// The number of a count.
+// Returns the number of a count.
 fn number(n: Ordinal) -> CsiParam
     ensures { result ≡ number (one_based n) }
 {
@@ -215,7 +215,7 @@ fn write_numbers<W: fmt::Write>(
     }
 }
 
-// A number as an entry.
+// Returns a number as an entry.
 fn word(it: u32) -> CsiParam
     ensures { result ≡ number it }
 {

@@ -24,7 +24,7 @@ use crate::unfit::Unfit;
 use crate::window_operations::operation;
 use control_functions::ControlFunction;
 
-// The parameters of a function, if it has a typed value.
+// Returns the parameters of a function, if it has a typed value.
 pub(crate) fn kind_of(function: ControlFunction) -> Option<Kind>
     ensures { result ≡ kind_of function }
 {
@@ -280,7 +280,7 @@ pub(crate) fn listed<'a>(
     }
 }
 
-// A mode whose state is asked for, which no more numbers follow.
+// Returns a mode whose state is asked for, which no more numbers follow.
 fn asked<'a>(status: ModeStatus, b: Option<u32>, c: Option<u32>) -> Function<'a>
     ensures { value_of result ≡ asked status b c }
 {
@@ -290,7 +290,7 @@ fn asked<'a>(status: ModeStatus, b: Option<u32>, c: Option<u32>) -> Function<'a>
     }
 }
 
-// The state of a mode, if nothing more is reported.
+// Returns the state of a mode, if nothing more is reported.
 fn state_of(b: Option<u32>, c: Option<u32>) -> Result<ModeState, Unfit>
     ensures { result ≡ state_of b c }
 {
@@ -304,7 +304,7 @@ fn state_of(b: Option<u32>, c: Option<u32>) -> Result<ModeState, Unfit>
     }
 }
 
-// Which report is asked for, by its number.
+// Returns which report is asked for, by its number.
 fn status_asked<'a>(n: u8) -> Function<'a>
     ensures { value_of result ≡ selected ControlFunction.DSR n }
 {
@@ -315,7 +315,7 @@ fn status_asked<'a>(n: u8) -> Function<'a>
     }
 }
 
-// The operation on tab stops.
+// Returns the operation on tab stops.
 pub(crate) fn tab_change_of(function: ControlFunction) -> TabChange
     ensures { result ≡ tab_change_of function }
 {
@@ -325,7 +325,7 @@ pub(crate) fn tab_change_of(function: ControlFunction) -> TabChange
     }
 }
 
-// The operation on modes.
+// Returns the operation on modes.
 pub(crate) fn change_of(function: ControlFunction) -> ModeChange
     ensures { result ≡ change_of function }
 {

@@ -1,8 +1,8 @@
-//! Which tab stops are cleared.
+//! This module says which tab stops are cleared.
 ghost use Rattle.std.specs.Prelude.{◌≡◌};
 ghost use Rattle.typed_functions.specs.Choices.{tabulation_clear_at, tabulation_clear_number};
 
-/// Which tab stops are cleared (ECMA-48, 8.3.154, TBC).
+/// Says which tab stops are cleared (ECMA-48, 8.3.154, TBC).
 #[derive(Clone, Copy, Debug, PartialEq, Eq)]
 pub enum TabulationClear {
     /// 0: that at the cursor.
@@ -20,7 +20,7 @@ pub enum TabulationClear {
 }
 
 impl TabulationClear {
-    /// Its number.
+    /// Returns its number.
     #[inline]
     pub fn number(self) -> u8
         ensures { result ≡ tabulation_clear_number self }
@@ -28,7 +28,7 @@ impl TabulationClear {
         self as u8
     }
 
-    /// The choice of a number, if there is one.
+    /// Returns the choice of a number, if there is one.
     #[inline]
     pub fn of_number(number: u8) -> Option<TabulationClear>
         ensures { result ≡ tabulation_clear_at number }

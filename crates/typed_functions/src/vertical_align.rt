@@ -1,6 +1,6 @@
-//! How high characters are placed.
+//! This module says how high characters are placed.
 
-/// How high characters are placed (mintty's wiki, and ISO 8613-6: SGR 73 to 75).
+/// Says how high characters are placed (mintty's wiki, and ISO 8613-6: SGR 73 to 75).
 #[derive(Clone, Copy, Debug, PartialEq, Eq)]
 pub enum VerticalAlign {
     /// SGR 75: on the line.

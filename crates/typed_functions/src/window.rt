@@ -120,14 +120,14 @@ impl fmt::Display for Window {
     }
 }
 
-// How it is spelled.
+// Returns its spelling.
 fn window_spelling(window: Window) -> Spelling
     ensures { result ≡ window_spelling window }
 {
     Spelling::plain(numbers(window), b't')
 }
 
-// Its numbers.
+// Returns its numbers.
 fn numbers(window: Window) -> Arguments
     ensures { result ≡ window_numbers window }
 {

@@ -5,7 +5,7 @@ ghost use Rattle.typed_functions.specs.Windows.{alone, filled, lowered, maximize
 use crate::unfit::Unfit;
 use crate::window::Window;
 
-// The operation of this number, with up to two more. From 24 on it is a count of lines.
+// Returns the operation of this number, with up to two more. From 24 on it is a count of lines.
 pub(crate) fn operation(number: u32, a: Option<u32>, b: Option<u32>) -> Result<Window, Unfit>
     ensures { result ≡ operation number a b }
 {
@@ -16,7 +16,7 @@ pub(crate) fn operation(number: u32, a: Option<u32>, b: Option<u32>) -> Result<W
     }
 }
 
-// Those below 24.
+// Returns the operation of a number below 24.
 fn operation_below(number: u32, a: Option<u32>, b: Option<u32>) -> Result<Window, Unfit>
     ensures { result ≡ operation_below number a b }
 {
@@ -43,7 +43,7 @@ fn operation_below(number: u32, a: Option<u32>, b: Option<u32>) -> Result<Window
     }
 }
 
-// Those of 11 to 21, which ask for a report.
+// Returns the operation of a number from 11 to 21, which asks for a report.
 fn reports(number: u32, a: Option<u32>, b: Option<u32>) -> Result<Window, Unfit>
     ensures { result ≡ reports number a b }
 {
@@ -61,7 +61,7 @@ fn reports(number: u32, a: Option<u32>, b: Option<u32>) -> Result<Window, Unfit>
     }
 }
 
-// One that takes no more numbers.
+// Returns an operation that takes no more numbers.
 fn alone(window: Window, a: Option<u32>, b: Option<u32>) -> Result<Window, Unfit>
     ensures { result ≡ alone window a b }
 {

@@ -8,11 +8,11 @@ use crate::signs::may_deceive;
 use ucd_derived::is_default_ignorable_code_point;
 use ucd_props::is_bidi_control;
 
-/// Whether a character can deceive the reader of a text: a terminal does not show it, it changes
-/// the order in which the characters around it are shown, or it ends a line in some programs and
-/// not in others. These are the characters with the property Default_Ignorable_Code_Point or
-/// Bidi_Control of Unicode 18.0, variation selectors and joiners among them, and U+2028 and U+2029,
-/// the separators of lines and of paragraphs.
+/// Returns whether a character can deceive the reader of a text: a terminal does not show it, it
+/// changes the order in which the characters around it are shown, or it ends a line in some
+/// programs and not in others. These are the characters with the property
+/// Default_Ignorable_Code_Point or Bidi_Control of Unicode 18.0, variation selectors and joiners
+/// among them, and U+2028 and U+2029, the separators of lines and of paragraphs.
 #[inline]
 pub fn is_deceiving(c: char) -> bool
     ensures { result ≡ is_deceiving c }
@@ -29,7 +29,7 @@ pub fn is_deceiving(c: char) -> bool
     c == '\u{2028}' || c == '\u{2029}'
 }
 
-// Whether it is in a long range of characters, none of which deceives.
+// Returns whether it is in a long range of characters, none of which deceives.
 #[inline]
 fn is_far(number: u32) -> bool
     ensures { IsTrue result → is_deceiving number ≡ false }
@@ -46,8 +46,8 @@ fn is_far(number: u32) -> bool
     }
 }
 
-/// Whether one of the characters of a text is. No character is decoded if the bytes of the text say
-/// that there is none.
+/// Returns whether one of the characters of a text is. No character is decoded if the bytes of the
+/// text say that there is none.
 pub fn has_deceiving(text: &str) -> bool
     ensures { result ≡ list_any is_deceiving (chars text.now) }
 {

@@ -9,8 +9,8 @@ use ucd_derived::{is_alphabetic, is_grapheme_link};
 use ucd_emoji::{is_emoji_modifier, is_emoji_variation_base, is_extended_pictographic};
 use ucd_script::Script;
 
-/// Whether a character that deceives ([`is_deceiving`]) belongs to the character before it, as
-/// people write:
+/// Returns whether a character that deceives ([`is_deceiving`]) belongs to the character before it,
+/// as people write:
 ///
 /// - a variation selector, U+FE0E or U+FE0F, after a character that it may follow by
 ///   `emoji-variation-sequences.txt` of UTS #51, which are the digits, `#` and `*` too;
@@ -30,9 +30,9 @@ pub fn belongs(before: Option<char>, c: char) -> bool
     }
 }
 
-/// Whether a character that deceives may come there: it [`belongs`] to the character before it, or
-/// no character comes directly before it and it is a mark of byte order, U+FEFF, with which a text
-/// may begin.
+/// Returns whether a character that deceives may come there: it [`belongs`] to the character before
+/// it, or no character comes directly before it and it is a mark of byte order, U+FEFF, with which
+/// a text may begin.
 pub fn may_follow(before: Option<char>, c: char) -> bool
     ensures { result ≡ may_follow before c }
 {
@@ -42,7 +42,7 @@ pub fn may_follow(before: Option<char>, c: char) -> bool
     }
 }
 
-// Whether the character belongs to the one before it.
+// Returns whether the character belongs to the one before it.
 fn belongs_to(before: char, c: char) -> bool
     ensures { result ≡ belongs (Some before) c }
 {
@@ -57,14 +57,14 @@ fn belongs_to(before: char, c: char) -> bool
     }
 }
 
-// Whether a joiner after the character makes one emoji of two.
+// Returns whether a joiner after the character makes one emoji of two.
 fn joins_emoji(c: char) -> bool
     ensures { result ≡ joins_emoji c }
 {
     is_extended_pictographic(c) || is_emoji_modifier(c) || c == '\u{fe0f}'
 }
 
-// Whether a joiner after the character says how letters are shown.
+// Returns whether a joiner after the character says how letters are shown.
 fn joins_letters(c: char) -> bool
     ensures { result ≡ joins_letters c }
 {
@@ -75,14 +75,14 @@ fn joins_letters(c: char) -> bool
     }
 }
 
-// Whether it is a mark on a letter of Arabic. Its script is that of the letter.
+// Returns whether it is a mark on a letter of Arabic. Its script is that of the letter.
 fn is_arabic_mark(c: char) -> bool
     ensures { result ≡ is_arabic_mark c }
 {
     ('\u{64b}' <= c && c <= '\u{65f}') || c == '\u{670}'
 }
 
-// Whether it is a script whose letters join.
+// Returns whether it is a script whose letters join.
 fn is_cursive(script: Script) -> bool
     ensures { result ≡ is_cursive script }
 {
@@ -104,7 +104,7 @@ fn is_cursive(script: Script) -> bool
     )
 }
 
-/// Whether a character deceives and may not come after this one, or first.
+/// Returns whether a character deceives and may not come after this one, or first.
 #[inline]
 pub fn is_stray(before: Option<char>, c: char) -> bool
     ensures { result ≡ is_stray before c }
@@ -112,7 +112,7 @@ pub fn is_stray(before: Option<char>, c: char) -> bool
     is_deceiving(c) && !may_follow(before, c)
 }
 
-/// Whether one of the characters of a text, which comes after this character, is stray. No
+/// Returns whether one of the characters of a text, which comes after this character, is stray. No
 /// character is decoded if the bytes of the text say that none deceives.
 #[inline]
 pub fn has_stray(before: Option<char>, text: &str) -> bool
@@ -125,7 +125,7 @@ pub fn has_stray(before: Option<char>, text: &str) -> bool
     }
 }
 
-// The same for a text in which some may deceive.
+// Does the same for a text in which some may deceive.
 fn is_some_stray(before: Option<char>, text: &str) -> bool
     ensures { result ≡ has_stray before (chars text.now) }
 {
@@ -139,7 +139,7 @@ fn is_some_stray(before: Option<char>, text: &str) -> bool
     false
 }
 
-/// The last character of a text, or the one before it if the text is empty.
+/// Returns the last character of a text, or the one before it if the text is empty.
 #[inline]
 pub fn last_char(before: Option<char>, text: &str) -> Option<char>
     ensures { result ≡ last_of before (chars text.now) }

@@ -5,8 +5,8 @@ ghost use Rattle.unicode_visibility.specs.Characters.{four_digits, leading, numb
 
 use arrayvec::ArrayString;
 
-/// The text of a character's number, as `<U+202E>`: in hexadecimal, upper case, with at least four
-/// digits.
+/// Returns the text of a character's number, as `<U+202E>`: in hexadecimal, upper case, with at
+/// least four digits.
 pub fn number_text(c: char) -> ArrayString<10>
     ensures { result.bytes ≡ number_text c }
 {
@@ -53,7 +53,7 @@ fn push_digit(text: &mut ArrayString<10>, digit: u32)
     text.push(hex_digit(digit as u8) as char);
 }
 
-/// The hexadecimal digit of a number below 16, in upper case.
+/// Returns the hexadecimal digit of a number below 16, in upper case.
 #[inline]
 pub fn hex_digit(value: u8) -> u8
     requires { value < 16 }

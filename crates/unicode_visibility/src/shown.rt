@@ -4,9 +4,9 @@ ghost use Rattle.unicode_visibility.specs.Characters.{is_annotation, is_shown};
 
 use crate::deceiving::is_deceiving;
 
-/// Whether a character shows as itself: it is no control (C0, DEL or C1), it does not deceive
-/// ([`is_deceiving`]), and it is none of U+FFF0 to U+FFFB, which are unassigned or mark interlinear
-/// annotations.
+/// Returns whether a character shows as itself: it is no control (C0, DEL or C1), it does not
+/// deceive ([`is_deceiving`]), and it is none of U+FFF0 to U+FFFB, which are unassigned or mark
+/// interlinear annotations.
 #[inline]
 pub fn is_shown(c: char) -> bool
     ensures { result ≡ is_shown c }
@@ -18,7 +18,7 @@ pub fn is_shown(c: char) -> bool
     0xa0 <= number && !is_deceiving(c) && !is_annotation(number)
 }
 
-// Whether it is one of U+FFF0 to U+FFFB.
+// Returns whether it is one of U+FFF0 to U+FFFB.
 #[inline]
 fn is_annotation(number: u32) -> bool
     ensures { result ≡ is_annotation number }

@@ -1,14 +1,15 @@
-//! Whether a text may have characters that deceive, by its bytes.
+//! This module says whether a text may have characters that deceive, by its bytes.
 ghost use Rattle.std.specs.Prelude.{◌≡◌, ◌≤◌, false, length};
 ghost use Rattle.unicode_visibility.specs.Signs.{begins_sign, has_hint, has_sign, is_dash, is_hint, is_sign};
 
-// How many places of a block are looked at, and how many bytes it has: a place is of two bytes.
+// Says how many places of a block are looked at, and how many bytes it has: a place is of two
+// bytes.
 const PLACES: usize = 32;
 
 const BLOCK: usize = 33;
 
-/// Whether a character that deceives may be in the text of these bytes. Most bytes are compared
-/// 16 at once.
+/// Returns whether a character that deceives may be in the text of these bytes. Most bytes are
+/// compared 16 at once.
 #[inline]
 pub(crate) fn may_deceive(bytes: &[u8]) -> bool
     ensures { result ≡ false → has_sign bytes.now ≡ false }
@@ -19,7 +20,8 @@ pub(crate) fn may_deceive(bytes: &[u8]) -> bool
     has_sign(bytes)
 }
 
-// Whether two bytes somewhere may begin one. The last block shares bytes with the one before it.
+// Returns whether two bytes somewhere may begin one. The last block shares bytes with the one
+// before it.
 fn has_hint(bytes: &[u8]) -> bool
     requires { 33 ≤ length bytes.now }
     ensures { result ≡ false → has_hint bytes.now ≡ false }
@@ -35,7 +37,7 @@ fn has_hint(bytes: &[u8]) -> bool
     block_has_hint(&bytes[last..])
 }
 
-// The same for a block: without branches, so that the compiler compares 16 bytes at once.
+// Does the same for a block: without branches, so that the compiler compares 16 bytes at once.
 #[inline(always)]
 fn block_has_hint(block: &[u8]) -> bool
     requires { length block.now ≡ 33 }
@@ -61,7 +63,7 @@ fn is_hint(a: u8, b: u8) -> bool
         | (a == 0xd8)
 }
 
-// Whether two or three bytes somewhere begin one.
+// Returns whether two or three bytes somewhere begin one.
 fn has_sign(bytes: &[u8]) -> bool
     ensures { result ≡ has_sign bytes.now }
 {
@@ -75,7 +77,7 @@ fn has_sign(bytes: &[u8]) -> bool
     false
 }
 
-// Whether a byte and those after it do.
+// Returns whether a byte and those after it do.
 #[inline(always)]
 fn begins_sign(a: u8, after: &[u8]) -> bool
     ensures { result ≡ begins_sign a after.now }
@@ -104,7 +106,7 @@ fn is_sign(a: u8, b: u8) -> bool
     }
 }
 
-// Whether a dash or a quotation mark begins there, U+2010 to U+2027.
+// Returns whether a dash or a quotation mark begins there, U+2010 to U+2027.
 fn is_dash(a: u8, b: u8, rest: &[u8]) -> bool
     ensures { result ≡ is_dash a b rest.now }
 {

@@ -1,4 +1,4 @@
-//! How a termcap query is read, byte by byte.
+//! This module says how a termcap query is read, byte by byte.
 ghost use Rattle.std.specs.Prelude.{◌≡◌, ◌<◌, length, ◌++◌, ◌∷◌, [], ℕ, List, OnOk, OnErr, IfOk, is_ok, if◌then◌else◌, map, ◌==◌};
 ghost use Rattle.std.specs.List.{FoldsTo, slice_split};
 ghost use Rattle.fallible_alloc.specs.Refusals.{Refused};
@@ -21,7 +21,7 @@ pub struct GetTcapBuilder<A: Allocator = Global> {
 }
 
 impl<A: Allocator + Copy> GetTcapBuilder<A> {
-    /// A builder before any data. Takes no memory.
+    /// Returns a builder before any data. Takes no memory.
     #[tactic(auto, unfolding(crate::specs::Names::HasConsumed))]
     pub fn new(alloc: A) -> GetTcapBuilder<A>
         ensures { HasConsumed [] result }
@@ -32,8 +32,8 @@ impl<A: Allocator + Copy> GetTcapBuilder<A> {
         }
     }
 
-    /// One more byte of the data. The error is that memory was refused, and the builder stays as it
-    /// was.
+    /// Takes one more byte of the data. The error is that memory was refused, and the builder stays
+    /// as it was.
     #[tactic(auto, unfolding(crate::specs::Names::HasConsumed))]
     pub fn push(&mut self, byte: u8) -> Result<(), AllocError>
         ensures ok { (s : List ℕ) → HasConsumed s self.old
@@ -44,8 +44,8 @@ impl<A: Allocator + Copy> GetTcapBuilder<A> {
         self.bytes.push(byte)
     }
 
-    /// These bytes of the data, with the effect of a `push` of each. The error is that memory was
-    /// refused, and the builder stays as it was; it never comes for no bytes.
+    /// Takes these bytes of the data, with the effect of a `push` of each. The error is that memory
+    /// was refused, and the builder stays as it was; it never comes for no bytes.
     #[tactic(auto, unfolding(crate::specs::Names::HasConsumed), using(crate::proofs::Runs::appended))]
     pub fn push_run(&mut self, bytes: &[u8]) -> Result<(), AllocError>
         ensures each { OnOk result (FoldsTo Pushes self.old bytes.now self.new) }
@@ -61,8 +61,8 @@ impl<A: Allocator + Copy> GetTcapBuilder<A> {
         result
     }
 
-    /// The names that all bytes mean, at least one. The error is that memory was refused; then
-    /// nothing is handed back.
+    /// Returns the names that all bytes mean, at least one. The error is that memory was refused;
+    /// then nothing is handed back.
     #[tactic(auto, unfolding(crate::specs::Names::HasConsumed))]
     pub fn finish(self) -> Result<Items<Text<A>, A>, AllocError>
         ensures ok { (s : List ℕ) → HasConsumed s self → IfOk result (λ ns. ns ≡ names_of s) }
@@ -87,7 +87,7 @@ fn extend<A: Allocator>(all: &mut Vec<u8, A>, bytes: &[u8]) -> Result<(), AllocE
     fallible_alloc::extend(all, bytes)
 }
 
-// The slices between `;`.
+// Returns the slices between `;`.
 fn split_at_separators<A: Allocator>(alloc: A, bytes: &[u8]) -> Result<Vec<&[u8], A>, AllocError>
     ensures ok { IfOk result (λ v.
         map (λ p. p.now) v.items ≡ slice_split (λ c. c == 0x3b) bytes.now) }
@@ -96,7 +96,7 @@ fn split_at_separators<A: Allocator>(alloc: A, bytes: &[u8]) -> Result<Vec<&[u8]
     fallible_alloc::collect(alloc, bytes.split(|b| *b == b';'))
 }
 
-// The meaning of each slice.
+// Returns the meaning of each slice.
 fn read_names<A: Allocator + Copy>(
     alloc: A,
     slices: &[&[u8]],

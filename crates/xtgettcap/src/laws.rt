@@ -3,7 +3,8 @@
 ghost use Rattle.std.specs.Prelude.{ℕ, List};
 ghost use Rattle.xtgettcap.specs.Names.{AreWritable, WritesBack, names_of};
 
-/// At least one name is written as data of digits and `;`, from which the same names are read.
+/// A query of at least one name is written as data of digits and `;`, from which the same names are
+/// read.
 pub fn writes_back()
     ensures { (ns : List (List ℕ)) → AreWritable ns → WritesBack ns }
 {}

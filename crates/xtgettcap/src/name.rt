@@ -1,4 +1,4 @@
-//! How the name of a capability is read and written.
+//! This module says how the name of a capability is read and written.
 ghost use Rattle.std.specs.Prelude.{◌≡◌, Some, IfOk, OnErr};
 ghost use Rattle.std.specs.Fmt.{DisplaysOnOk};
 ghost use Rattle.std.specs.Str.Lossy.{utf8_lossy};
@@ -11,7 +11,7 @@ use std::alloc::{AllocError, Allocator};
 use std::fmt;
 use std::fmt::Display;
 
-// The name that a slice of the data means.
+// Returns the name that a slice of the data means.
 pub(crate) fn read_name<A: Allocator + Copy>(alloc: A, slice: &[u8]) -> Result<Text<A>, AllocError>
     ensures ok { IfOk result (λ t. t ≡ name_of slice.now) }
     ensures refused { OnErr result (Refused A) }
@@ -25,7 +25,8 @@ pub(crate) fn read_name<A: Allocator + Copy>(alloc: A, slice: &[u8]) -> Result<T
     }
 }
 
-// The text of these bytes, with U+FFFD for those that are not UTF-8. They are copied only then.
+// Returns the text of these bytes, with U+FFFD for those that are not UTF-8. They are copied only
+// then.
 fn into_lossy<A: Allocator>(alloc: A, bytes: Vec<u8, A>) -> Result<Text<A>, AllocError>
     ensures ok { IfOk result (λ t. t ≡ utf8_lossy bytes.items) }
     ensures refused { OnErr result (Refused A) }
@@ -36,7 +37,7 @@ fn into_lossy<A: Allocator>(alloc: A, bytes: Vec<u8, A>) -> Result<Text<A>, Allo
     }
 }
 
-// The text of these bytes, with U+FFFD for those that are not UTF-8.
+// Returns the text of these bytes, with U+FFFD for those that are not UTF-8.
 fn lossy<A: Allocator>(alloc: A, bytes: &[u8]) -> Result<Text<A>, AllocError>
     ensures ok { IfOk result (λ t. t ≡ utf8_lossy bytes.now) }
     ensures refused { OnErr result (Refused A) }
@@ -65,7 +66,7 @@ fn write_hex<W: fmt::Write>(bytes: &[u8], f: &mut fmt::Formatter<W>) -> fmt::Res
     Ok(())
 }
 
-// Two digits, also for a byte below 16.
+// Writes two digits, also for a byte below 16.
 #[tactic(auto, using(std::proofs::lemmas::Fmt::hex_byte))]
 fn write_byte<W: fmt::Write>(byte: u8, f: &mut fmt::Formatter<W>) -> fmt::Result
     ensures { DisplaysOnOk W.write_str_gives f.old result (Some (two_digits byte)) f.new }

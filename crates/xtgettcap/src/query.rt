@@ -1,4 +1,4 @@
-//! How a termcap query is written.
+//! This module says how a termcap query is written.
 ghost use Rattle.std.specs.Prelude.{◌∷◌, Some};
 ghost use Rattle.std.specs.Fmt.{DisplaysOnOk};
 ghost use Rattle.std.specs.List.{flat_map};
@@ -26,7 +26,7 @@ impl<A: Allocator> fmt::Display for TcapQuery<'_, A> {
     }
 }
 
-// The names with `;` between them.
+// Writes the names with `;` between them.
 fn write_names<W: fmt::Write, A: Allocator>(
     names: &[Text<A>],
     f: &mut fmt::Formatter<W>,
@@ -41,7 +41,7 @@ fn write_names<W: fmt::Write, A: Allocator>(
     write_more(rest, f)
 }
 
-// The names with `;` before each.
+// Writes the names with `;` before each.
 fn write_more<W: fmt::Write, A: Allocator>(
     rest: &[Text<A>],
     f: &mut fmt::Formatter<W>,

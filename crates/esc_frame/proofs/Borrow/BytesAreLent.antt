@@ -1,4 +1,4 @@
--- Bytes whose strings can all be lent: what holds after some of them.
+-- These lemmas hold after some of the bytes whose strings can all be lent.
 use Rattle.std.proofs.Common.{ℕ, ◌≡◌, ◌+◌, ◌<◌, Bool, true, false, not, ◌&&◌, ◌||◌, List, [], ◌∷◌, ◌++◌, length, take, drop, get_or, refl, ap, sym, ◌∙◌, subst}
 use Rattle.std.proofs.Common.{None, take-append-drop, arith}
 use Rattle.std.proofs.Math.Seq.{take-add}
@@ -157,7 +157,7 @@ fresh_more u rest i n f g = λ l.
     (borrows_after u rest i (and_parts (is_fresh u) (borrows u rest) l).1) in
     ap is_fresh (after_more u rest i n) ∙ g k
 
--- by what is unfinished after the bytes
+-- bytes stay fresh by the unfinished segment after them
 pub fresh_by : (u v : Unfinished) (rest : List ℕ) (n : ℕ) → after_all u (take n rest) ≡ v
     → (borrows v (drop n rest) ≡ true → is_fresh v ≡ true) → StaysFresh u rest n
 fresh_by u v rest n e f = λ l.
@@ -169,7 +169,7 @@ pub ground_fresh : (u : Unfinished) (rest : List ℕ) (n : ℕ) → after_all u 
     → StaysFresh u rest n
 ground_fresh u rest n e = λ l. ap is_fresh e
 
--- what opens here is fresh, or cannot be lent
+-- a string that opens here is fresh, or cannot be lent
 pub opened_fresh : (k : Kind) (o : Opener) (rest : List ℕ) → borrows (unfinished_at_opener k o) rest
     ≡ true
     → is_fresh (unfinished_at_opener k o) ≡ true

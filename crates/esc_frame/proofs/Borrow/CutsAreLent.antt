@@ -57,7 +57,7 @@ unfolding last_in
 last_push k [] g = refl
 last_push k (h ∷ gs) g = last_push h gs g
 
--- else it is what is unfinished
+-- any other segment is the unfinished one
 last_by : (g : Segment) → HasShape g [] → is_finished g [] ≡ false → (t : Bool)
     → is_ground (after_all Ground (bytes_of g)) ≡ t
     → last_of (after_all Ground (bytes_of g)) ≡ g
@@ -238,7 +238,7 @@ osc_pass o qs (Sequence x ∷ ps) r a h =
     )
 osc_pass o qs (BrokenOff x ∷ ps) r a h = absurd cc
 
--- ---- what follows a segment that does not end itself
+-- ---- bytes after a segment that does not end itself
 
 pair_facts : (b : ℕ) → is_raw (class_of b) ≡ true → (is_sequence (0xc2 ∷ b ∷ []) ≡ true)
     × (is_pair (0xc2 ∷ b ∷ []) ≡ true)
@@ -310,7 +310,7 @@ osc_on o ps b r few h p =
 
 -- ---- segment after segment
 
--- the bytes of a segment, and what follows it
+-- says that the bytes of a segment pass if those after it do
 abbrev Goes : Segment → List ℕ → Type 0
 Goes g r = all_pass Ground r ≡ true → all_pass Ground (bytes_of g ++ r) ≡ true
 

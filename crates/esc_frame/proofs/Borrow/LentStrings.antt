@@ -1,4 +1,4 @@
--- Strings whose text is lent, and what ends them.
+-- These lemmas are about strings whose text is lent, and the bytes that end them.
 use Rattle.std.proofs.Common.{ℕ, ◌≡◌, ◌+◌, ◌<◌, Bool, true, false, not, List, [], ◌∷◌, ◌++◌, length, take, drop, get_or, refl, sym, subst, ap, ◌∙◌}
 use Rattle.std.proofs.Common.{Option, None, Some}
 use Rattle.std.proofs.Common.{min, arith}
@@ -38,7 +38,7 @@ left_fresh : (b : ℕ) (c : Class) (rest : List ℕ) → borrows (osc_left b c).
 left_fresh b (Breaks (C1Introducer k)) rest h = opened_fresh k Raw rest h
 left_fresh b _ rest h = refl
 
--- what ends a command that can be lent has few parts before it
+-- a byte that ends a command that can be lent has few parts before it
 few_of : (ps : List OscUnit) (c : Class) → ends_osc c ≡ true → passes_osc ps c ≡ true
     → has_few_parts (text_of ps) ≡ true
 few_of ps Bell h k = k
@@ -57,7 +57,7 @@ pub within_by : (limit : Option ℕ) (n : ℕ) (r : Bool)
 within_by limit n r f = let all : 0 + n ≡ n = omega arith in
     ap (is_within limit) (sym all) ∙ sym (f 0 (none_within limit) refl)
 
--- what is emitted of a text: its event within the limit, and nothing past it
+-- the event of a text is emitted within the limit, and nothing past it
 pub osc_emitted : (limit : Option ℕ) (t : List ℕ) → is_within limit (length t) ≡ true
     → OscDispatch (parts_of t) ∷ [] ≡ osc_events limit t
 osc_emitted limit t w = rw w refl
@@ -74,7 +74,7 @@ pub apc_unemitted : (limit : Option ℕ) (t : List ℕ) → is_within limit (len
     → [] ≡ apc_events limit t
 apc_unemitted limit t w = rw w refl
 
--- what ends a command leaves it, and emits it
+-- a byte that ends a command leaves it, and emits it
 pub ends_by : (limit : Option ℕ) (o : Opener) (ps : List OscUnit) (b : ℕ) (c : Class)
     → ends_osc c ≡ true
     → emitting (osc_events limit (text_of ps)) (osc_left b c) ≡ move_inside limit (InOsc o ps) b c
@@ -90,7 +90,7 @@ bell_class = refl
 pub left_bell : (b : ℕ) → b ≡ 0x07 → osc_left b (class_of b) ≡ (Ground, [])
 left_bell b e = rw (e, bell_class) refl
 
--- any other byte does what it does in ground
+-- any other byte acts as in ground
 pub left_other : (b : ℕ) → (b ≡ 0x07 → ⊥) → ground_move b (class_of b) ≡ osc_left b (class_of b)
 left_other b h = by (class_of b) (λ e. h (is_bell b e))
   where
@@ -121,7 +121,7 @@ few_by_pair : (ps : List OscUnit) (b : ℕ) → is_from 0x80 0x9f b ≡ true
     → has_few_parts (text_of ps) ≡ true
 few_by_pair ps b h = let k = pair_whole b h in rw (k.0, k.1, outcome) (λ p. p)
 
--- what the byte there does
+-- the move of the byte there
 abbrev move_at : (ℕ → Class → Move) → List ℕ → ℕ → Move
 move_at m rest n = m (get_or rest n 0) (class_of (get_or rest n 0))
 

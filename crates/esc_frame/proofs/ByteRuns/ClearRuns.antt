@@ -167,7 +167,7 @@ free_text_clear x n h u =
     free_clear (chars (take n x)) (scalars-chars (take n x) u)
     (subst IsFree (sym (encodes-chars (take n x) u)) (free_taken x n h))
 
--- ---- what the actor is given of them
+-- ---- the events that the actor is given for them
 
 module _ {S : Type 0} (takes refuses : S → Event → S
     → Type 0) (rest text : List ℕ) (n : ℕ) (old new : S) (free : IsFreeTo rest n)

@@ -169,7 +169,7 @@ module _ {S : Type 0} (takes refuses : S → Event → S → Type 0) (is_ready :
   ran_refused {own} old mid new so h = λ limit.
       ran_stop limit takes refuses Ground Ground rest i old mid new so.1 (so.2 limit) own (h limit)
 
--- what stopped within a prefix stopped within the whole
+-- a call that stopped within a prefix stopped within the whole
 pub stop_within : {S : Type 0} (limit : Option ℕ) (own : Type 0) (takes refuses : S → Event → S
     → Type 0) (u : Unfinished) (rest : List ℕ) (n : ℕ) (old new : S)
     → StopsAt own takes refuses old (events_all limit u (take n rest)) new
@@ -430,7 +430,7 @@ pub osc_sequence_passes : (o : Opener) (ps : List OscUnit) (x : List ℕ) → is
     → is_pair x ≡ false → all_pass (InOsc o ps) x ≡ true
 osc_sequence_passes o ps x s p = (osc_sequence_does None o ps x s p).2
 
--- ---- what the actor is given of them
+-- ---- the events that the actor is given for them
 
 module _ {S : Type 0} (takes refuses : S → Event → S
     → Type 0) (rest : List ℕ) (n : ℕ) (old new : S) where

@@ -132,7 +132,7 @@ module _ (limit : Option ℕ) (rest : List ℕ) (run : ℕ) (items : List CsiPar
       (subst (λ y. list_all is_body_byte (take run y) ≡ true) (sym (tail_is rest 2))
       starts.read.body)))
 
--- what such a call says of the machine in ground
+-- such a call stays in ground
 pub stays_took : {K A S E : Type 0} (keeps : Option ℕ → K → List ℕ → Type 0)
     (may_fail : Option ℕ → Type 0)
     (limit : Option ℕ)

@@ -113,7 +113,7 @@ no_text_first bytes n e z l =
     subst (λ k. is_text_byte (get_or bytes k 0) ≡ false) none
     (prefix_len_stops is_text_byte bytes 0 (subst (λ k. k < length bytes) (sym none) l))
 
--- what is kept with the run
+-- the text is kept with the run
 pub run_text : {x : List ℕ} (ps : List OscUnit) (run : IsTextRun x)
     → text_of ps ++ x ≡ text_of (ps ++ run.0)
 run_text ps (qs, t, f) = ap (λ z. text_of ps ++ z) (sym t) ∙ sym (flat_map-append kept_of ps qs)
@@ -165,7 +165,7 @@ data_text limit o x f d (b ∷ ys) e h =
       ap (λ es. DcsPut b ∷ es) q.1,
     )
 
--- ---- what is passed over
+-- ---- ignored strings
 
 skip_data : (limit : Option ℕ) (o : Opener) (x : List ℕ) (f : ℕ) (d ys : List ℕ)
     → is_read limit (without_noise x) ≡ false → list_all is_text_byte ys ≡ true
@@ -181,7 +181,7 @@ skip_ignored : (limit : Option ℕ) (i : Kind) (o : Opener) (d ys : List ℕ)
 skip_ignored limit i o =
     quiet_run limit (InIgnored i o) is_text_byte (λ d b h. rw ((text_byte b h).0, move_inside) refl)
 
--- ---- what the machine holds after a run, by its state
+-- ---- the machine after a run, by its state
 
 module _ {K A : Type 0} (keeps : Option ℕ → K → List ℕ
     → Type 0) (limit : Option ℕ) (m : Machine K A) (ys : List ℕ) (p : list_all is_text_byte ys

@@ -1,4 +1,4 @@
--- What stands is a cut.
+-- The segments that the machine finds are a cut.
 use Rattle.std.proofs.Common.{ℕ, ◌≡◌, Bool, true, false, if◌then◌else◌, List, [], ◌∷◌, ◌++◌, refl, ap, sym, ◌∙◌, subst, append_assoc, Option, None}
 use Rattle.std.proofs.lemmas.List.{append-nil}
 use Rattle.esc_frame.specs.Classes.{class_of, without_noise}
@@ -40,7 +40,7 @@ are_closed (h ∷ k ∷ gs) (sh, fh, r) =
       are_closed (k ∷ gs) r,
     )
 
--- what is finished before nothing is finished by itself
+-- a segment that is finished before nothing is finished by itself
 pub itself : (h : Segment) → is_finished h [] ≡ true → ends_itself h ≡ true
 itself (Osc o ps Open) f = f
 itself (Osc o ps Rung) f = refl

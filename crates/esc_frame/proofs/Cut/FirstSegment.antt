@@ -19,7 +19,7 @@ use Rattle.esc_frame.proofs.Cut.FirstSequence.{Begun, begun, lead_of, begun_wait
 use Rattle.esc_frame.proofs.Cut.FirstSequence.Begun.{Complete, Halted, Waiting}
 use Rattle.esc_frame.proofs.Cut.UnitsAreDetermined.{lead_is, raw_in, c2_class}
 
--- the longest prefix of a class, and what is after it
+-- the longest prefix of a class; then the bytes after it
 abbrev pub prefix : (Class → Bool) → List ℕ → List ℕ
 prefix test [] = []
 prefix test (b ∷ s) = if test (class_of b) then b ∷ prefix test s else []
@@ -46,7 +46,7 @@ rest_is test [] (b ∷ r) a e = rw e refl
 rest_is test (b ∷ x) r a e = let h = and_parts (test (class_of b)) _ a in
     rw h.0 (rest_is test x r h.1 e)
 
--- a whole segment; or an OSC by its opener and what is after it
+-- a whole segment; or an OSC by its opener and the bytes after it
 pub data Found : Type 0 where
   OneSegment : Segment → Found
   OscAfter : Opener → List ℕ → Found
@@ -107,7 +107,7 @@ abbrev pub first : List ℕ → Found
 first [] = OneSegment (Control 0)
 first (b ∷ s) = first_by b s (class_of b)
 
--- what may follow a segment
+-- says that these bytes may follow a segment
 abbrev pub MayFollow : Segment → List ℕ → Type 0
 MayFollow g [] = Unit {0}
 MayFollow g (b ∷ r) = is_finished g (b ∷ r) ≡ true
@@ -231,7 +231,7 @@ escape_first : (x r : List ℕ) → AllOf in_escape x → Ends in_escape r
 escape_first x r a e =
     rw escape_code (rw (prefix_is in_escape x r a e, rest_is in_escape x r a e) refl)
 
--- an opener and what comes after it
+-- an opener and the bytes after it are found first
 pub opener_first : (k : Kind) (o : Opener) (r : List ℕ) → IsOpener o
     → first (opener k o ++ r) ≡ opened_first k o r
 opener_first k (Long n) r h =
@@ -296,7 +296,7 @@ broken_first : (x r : List ℕ) → is_prefix x ≡ true → MayFollow (Broken x
 broken_first x [] h m = ap lead_first (ap begun (append-nil x) ∙ begun_waits x h)
 broken_first x (b ∷ r) h m = ap lead_first (begun_breaks x (b ∷ r) h m)
 
--- what a stream begins with that begins with a segment
+-- the first segment of a stream is the one that it begins with
 pub first_is : (g : Segment) (r : List ℕ) → HasShape g r → MayFollow g r
     → first (bytes_of g ++ r) ≡ found g r
 first_is (Character b) r s m = text_first b r (class_of b) s

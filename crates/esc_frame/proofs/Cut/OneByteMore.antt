@@ -37,7 +37,7 @@ executes_push x b c e =
     )
     (pushed (executes x) b (is_c0 c))
 
--- what a byte of a class is
+-- says which bytes have a class
 abbrev Means : ℕ → Class → Type 0
 Means b Bell = b ≡ 0x07
 Means b (Breaks Escape) = b ≡ 0x1b
@@ -170,7 +170,7 @@ noise_first : (x : List ℕ) (t : Bool) (b : ℕ)
 noise_first x true b k h = k h
 noise_first x false b k h = absurd cc
 
--- what has noise alone when nothing else stands in it
+-- a list without any other byte is noise
 pub all_noise : (x : List ℕ) → is_empty (without_noise x) ≡ true → AllOf is_noise x
 all_noise [] h = refl
 all_noise (b ∷ x) h = noise_first x (is_noise (class_of b)) b (all_noise x) h

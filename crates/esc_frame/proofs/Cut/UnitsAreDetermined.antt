@@ -56,7 +56,7 @@ osc_unit_is_next (Sequence x) t h =
 osc_unit_is_next (BrokenOff x) t h =
     next_lead (x ++ t) (prefix_lead x t h.0) ∙ ap next_of (begun_breaks x t h.0 h.1)
 
--- what ends the units
+-- the end of the units
 abbrev pub end_of : Begun → Ending
 end_of (Waiting x) = Waits x
 end_of _ = Open

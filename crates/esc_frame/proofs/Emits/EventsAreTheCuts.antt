@@ -11,7 +11,7 @@ use Rattle.esc_frame.specs.Stream.{events, events_within, added_within, Says}
 use Rattle.esc_frame.proofs.Cut.CutExists.{cut_emits, stands, events_of_the_cut}
 use Rattle.esc_frame.proofs.Cut.CutIsUnique.{events_once}
 
--- what is cut so far emitted the stream's events
+-- the segments that are cut so far emitted the stream's events
 pub cut_events : (limit : Option ℕ) (s : List ℕ) (es : List Event) (gs : List Segment)
     (u : Unfinished) → HasCut limit s es gs u → es ≡ events_within limit s
 cut_events limit s es gs u st =
@@ -55,7 +55,7 @@ module _ (limit : Option ℕ) where
   unfolding events_within
   events_then s b = sym (events_append limit Ground s b)
 
-  -- what more bytes add is what the machine emits of them
+  -- the events that more bytes add are those that the machine emits for them
   pub added_is : (s b : List ℕ) → added_within limit s b ≡ events_all limit (after_all Ground s) b
   added_is s b = added_from limit s b (events_all limit (after_all Ground s) b) (events_then s b)
 
@@ -107,7 +107,7 @@ are_append (g ∷ gs) hs r (sh, fi, f) k =
       are_append gs hs r f k,
     )
 
--- what follows finished segments has its own cut and its own events
+-- the bytes after finished segments have their own cut and their own events
 pub cut_after : (limit : Option ℕ) (gs : List Segment) (u : List ℕ) → AreFinished gs u
     → (hs : List Segment)
     × HasCut limit (joined_bytes gs ++ u) (finished_events_within limit gs ++ events_within limit u)

@@ -1,4 +1,4 @@
--- What the events of any stream can be.
+-- The events of any stream have these forms.
 use Rattle.std.proofs.Common.{ℕ, Option, length, ◌≡◌, ◌<◌, Bool, true, false, if◌then◌else◌, ◌&&◌, ◌||◌, List, [], ◌∷◌, ◌++◌, take, refl, sym, ap, ◌∙◌, subst}
 use Rattle.std.proofs.Common.{arith}
 use Rattle.std.proofs.lemmas.List.{append-nil}

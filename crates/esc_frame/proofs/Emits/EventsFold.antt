@@ -1,4 +1,4 @@
--- What an actor is given, call after call.
+-- An actor is given events, call after call.
 use Rattle.std.proofs.Common.{ℕ, ◌≡◌, ◌+◌, ◌<◌, Bool, true, false, not, List, [], ◌∷◌, ◌++◌, map, length, take, drop, get_or, Result, Ok, Err, refl}
 use Rattle.std.proofs.Common.{inl, inr, ap, subst}
 use Rattle.std.proofs.Common.{Option}
@@ -49,7 +49,7 @@ takes_one own other takes refuses result old new {e} {f} i w h =
     subst (λ y. Takes other takes refuses result old (y ∷ []) new) i
     (takes_for own other takes refuses result old new (e ∷ []) w h)
 
--- what was refused by the actor alone, where it was so of few
+-- the actor alone refused, if it did so for few parts
 pub takes_few : {S E : Type 0} (few : Bool) (why : Type 0) (takes refuses : S → Event → S → Type 0)
     (result : Result (Unit {0}) E) (old new : S) (es : List Event)
     → Takes why takes refuses result old es new
@@ -83,7 +83,7 @@ module _ {K A S E : Type 0} (keeps : Option ℕ → K → List ℕ → Type 0) (
       → Moved keeps may_fail limit own takes refuses result (u, es) m old new
   quiet_moved own h = moved_for ⊥ own (λ no. absurd no) h
 
--- or of which the actor was given a text
+-- or the actor was given a text of it
 pub takes_moved : {K A S E : Type 0} (keeps : Option ℕ → K → List ℕ → Type 0)
     (may_fail : Option ℕ → Type 0) (stops : Type 0 → List ℕ → Type 0) (limit : Option ℕ)
     (takes refuses : S → Event → S → Type 0) (result : Result (Unit {0}) E) (u : Unfinished)
@@ -130,7 +130,7 @@ stops_then own takes refuses xs ys old mid new h (prefix, rest, e, inr (m, x, mo
   inr (m, x, more, is, folds_then takes xs prefix old mid m h f, r),
 )
 
--- what stopped within some events stopped within them and more
+-- a call that stopped within some events stopped within them and more
 pub stops_more : {S : Type 0} (own : Type 0) (takes refuses : S → Event → S
     → Type 0) (xs ys : List Event) (old new : S) → StopsAt own takes refuses old xs new
     → StopsAt own takes refuses old (xs ++ ys) new

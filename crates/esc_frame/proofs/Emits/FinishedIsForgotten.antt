@@ -1,4 +1,4 @@
--- What is finished of a stream has no more to do with what follows it.
+-- Finished segments of a stream do not act on later bytes.
 use Rattle.std.proofs.Common.{ℕ, Option, None, ◌≡◌, false, List, [], ◌∷◌, ◌++◌, refl, ap, sym, ◌∙◌, subst, inl, inr, append-nil}
 use Rattle.esc_frame.specs.declared.parser.VTParser.{VTParser}
 use Rattle.esc_frame.specs.Events.{Event}
@@ -29,7 +29,7 @@ last_pushed d (h ∷ gs) g = last_pushed h gs g
 last_same : (gs hs : List Segment) (g h : Segment) → gs ++ g ∷ [] ≡ hs ++ h ∷ [] → g ≡ h
 last_same gs hs g h e = sym (last_pushed g gs g) ∙ ap (last_or g) e ∙ last_pushed g hs h
 
--- what is unfinished, of the last segment
+-- the unfinished part of the last segment
 abbrev open_of : Segment → Unfinished
 open_of (Broken f) = Pending f
 open_of (CutEscape x) = InEscape x
@@ -67,7 +67,7 @@ one_end s es fs gs hs Ground v st ts =
     sym (ground_if s fs hs v ts (at_ground_if s es gs Ground st refl))
 one_end s es fs gs hs u v st ts = open_same s es fs gs hs u v refl st ts
 
--- ---- what follows finished segments leaves unfinished what the whole stream does
+-- ---- bytes after finished segments leave the same segment unfinished as the whole stream
 
 after_finished : (gs : List Segment) (u : List ℕ) → AreFinished gs u
     → after_all Ground (joined_bytes gs ++ u) ≡ after_all Ground u
@@ -98,7 +98,7 @@ pub events_alone : (limit : Option ℕ) (s u : List ℕ) (h : IsAfterFinished s 
     → events_within limit s ≡ finished_events_within limit h.0 ++ events_within limit u
 events_alone limit s u (gs, e, f) = ap (events_within limit) e ∙ events_after limit gs u f
 
--- ---- each stream has what is unfinished of it
+-- ---- each stream has an unfinished part
 
 open_end : (u : Unfinished) → OpenShape u → IsUnfinished (open_bytes u) (open_bytes u)
 open_end Ground h = (([], refl, tt), inl refl)

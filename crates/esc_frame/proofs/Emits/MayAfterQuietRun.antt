@@ -1,4 +1,4 @@
--- What an actor may be given after a run that emits nothing.
+-- An actor may be given these events after a run that emits nothing.
 use Rattle.std.proofs.Common.{ℕ, ◌≡◌, ◌+◌, ◌-◌, ◌<◌, List, [], length, take, drop, get_or, Option}
 use Rattle.esc_frame.specs.declared.classes.Class.{Class}
 use Rattle.esc_frame.specs.Classes.{class_of}

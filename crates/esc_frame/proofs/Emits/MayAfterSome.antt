@@ -1,4 +1,4 @@
--- What an actor may be given, after some of it.
+-- An actor may be given these events, after some of them.
 use Rattle.std.proofs.Common.{ℕ, ◌≡◌, ◌<◌, ◌+◌, ◌⊎◌, inl, inr, List, [], ◌∷◌, ◌++◌, map, length, take, drop, get_or, ap, sym, ◌∙◌, subst, take-append-drop, append_assoc}
 use Rattle.std.specs.List.{FoldsTo}
 use Rattle.std.proofs.lemmas.List.{map-append, take_more, append-nil}
@@ -23,7 +23,7 @@ module _ {S V : Type 0} (is_ready : S → Type 0) (may : S → V → Type 0) (ta
   get_first v vs (inl r) = inl r
   get_first v vs (inr m) = inr m.0
 
-  -- what is left after some
+  -- it may be given the rest after some
   pub get_rest : (xs ys all : List V) → xs ++ ys ≡ all → (is_ready old → is_ready mid)
       → FoldsTo takes old xs mid → MayGet is_ready may takes old all
       → MayGet is_ready may takes mid ys
@@ -51,7 +51,7 @@ module _ {S V : Type 0} (is_ready : S → Type 0) (may : S → V → Type 0)
           ∙ sym (map-append event (take (i + 1) xs) (drop (i + 1) xs))
           ∙ ap (map event) (take-append-drop (i + 1) xs)
 
--- ---- what was given, from what an actor keeps that logs it
+-- ---- the events given, from the log of an actor that keeps one
 
 abbrev pub Logs : {V : Type 0} → List V → V → List V → Type 0
 Logs old v new = new ≡ old ++ v ∷ []

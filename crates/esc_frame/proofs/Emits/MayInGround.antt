@@ -1,4 +1,4 @@
--- What an actor may be given in ground.
+-- An actor may be given these events in ground.
 use Rattle.std.proofs.Common.{ℕ, ◌≡◌, ◌-◌, ◌⊎◌, true, List, [], ◌∷◌, ◌++◌, map, length, take, drop, Option, sym, ap, ◌∙◌, subst, take-append-drop}
 use Rattle.std.specs.List.{FoldsTo, prefix_len, list_all}
 use Rattle.esc_frame.specs.Events.{Event, Awaits, MayGet}
@@ -30,7 +30,7 @@ module _ {S : Type 0} (may : S → Event → Type 0) (takes : S → Event → S 
       (take_prefix may takes old (events_all limit u (take n rest)) _
       (subst (Awaits may takes old) (sym parted) m))
 
-  -- what is left after them
+  -- it awaits the rest after them
   pub cut_rest : (v : Unfinished) (old mid : S) → after_all u (take n rest) ≡ v
       → FoldsTo takes old (events_all limit u (take n rest)) mid
       → Awaits may takes old (events_all limit u rest)
@@ -66,7 +66,7 @@ module _ {S : Type 0} (is_ready : S → Type 0) (may : S → Event → Type 0)
       p = subst (λ k. list_all is_text_byte (take k rest) ≡ true) (sym e)
           (run_passes is_text_byte rest)
 
-  -- what is left after them
+  -- it may be given the rest after them
   pub may_after : (old mid : S) → Ran takes is_ready rest n old mid
       → MayRun is_ready may takes Ground rest old
       → MayRun is_ready may takes Ground (take (length rest - n) (drop n rest)) mid

@@ -1,4 +1,4 @@
--- What texts say: characters, controls, and any one segment that is finished by itself.
+-- Texts say their events: characters, controls, and any one segment that is finished by itself.
 use Rattle.std.proofs.Common.{ℕ, ◌≡◌, ◌≤◌, ◌<◌, true, List, [], ◌∷◌, ◌++◌, refl, sym, ap, ◌∙◌, arith, inl, inr}
 use Rattle.std.proofs.lemmas.List.{append-nil}
 use Rattle.std.proofs.lemmas.Str.{encode_ascii}
@@ -55,7 +55,7 @@ pub says_high_control : (b : ℕ) → is_c1 (class_of b) ≡ true
     → Says (0xc2 ∷ b ∷ []) (Execute b ∷ [])
 says_high_control b h = says_one (HighControl true b) (λ rest. (h, refl))
 
--- what is finished by itself is so whatever follows
+-- a segment that is finished by itself is so whatever follows
 head_same : (f t x y : List ℕ) → is_broken_before f (t ++ 0x07 ∷ x) ≡ true
     → is_broken_before f (t ++ 0x07 ∷ y) ≡ true
 head_same f [] x y h = h

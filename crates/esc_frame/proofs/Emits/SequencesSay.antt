@@ -1,4 +1,4 @@
--- What escape sequences and control sequences say.
+-- Escape sequences and control sequences say their events.
 use Rattle.std.proofs.Common.{ℕ, ◌≡◌, Bool, true, false, not, ◌&&◌, if◌then◌else◌, List, [], ◌∷◌, ◌++◌, refl, ap, arith}
 use Rattle.std.specs.List.{list_all}
 use Rattle.std.proofs.lemmas.Bool.{and_parts}
@@ -30,7 +30,7 @@ all_those p [] h = refl
 all_those p (b ∷ x) h = let w = and_parts (p (class_of b)) (list_all (λ b. p (class_of b)) x) h in
     rw w.0 (ap (λ y. b ∷ y) (all_those p x w.1))
 
--- bytes 20-3F, of which none is noise and none a control
+-- bytes 20-3F are neither noise nor a control
 body_csi : (c : Class) → in_body c ≡ true → in_csi c ≡ true
 body_csi Intermediate h = refl
 body_csi Parameter h = refl
@@ -108,7 +108,7 @@ one_csi x f hx hb hf = (
   rw (body_executes x hx, body_strip x hx) (csi_dispatched x f (is_csi_body x) hb),
 )
 
--- and says what this body dispatches
+-- it says the event of this body
 pub says_csi : (x : List ℕ) (f : ℕ) → AllOf in_body x → is_csi_body x ≡ true
     → ends_csi (class_of f) ≡ true
     → Says ((0x1b ∷ 0x5b ∷ x) ++ f ∷ []) (csi_event x f ∷ [])

@@ -1,4 +1,4 @@
--- From the machine's steps to what a stream adds.
+-- The machine's steps give the events that bytes add to a stream.
 use Rattle.std.proofs.Common.{ℕ, ◌≡◌, Bool, true, false, not, ◌||◌, ◌&&◌, List, [], ◌∷◌, ◌++◌, take, Option, Some, None, IfSome, inl, inr, refl, ap, sym, ◌∙◌, subst, ◌⊎◌}
 use Rattle.std.specs.List.{FoldsTo}
 use Rattle.std.proofs.lemmas.Bool.{and_parts}
@@ -27,7 +27,7 @@ use Rattle.esc_frame.proofs.Emits.EventsAreTheCuts.{after_append, added_is}
 use Rattle.esc_frame.specs.Parses.{MayGive}
 use Rattle.esc_frame.specs.declared.actor.VTActor.{Ghosts as Actor}
 
--- what many bytes say, of the stream
+-- many bytes keep the relation to the stream
 pub kept_all : {K A : Type 0} (keeps : Option ℕ → K → List ℕ
     → Type 0) (limit : Option ℕ) (m : Machine K A) (s b : List ℕ)
     → Holds keeps limit m (after_all (after_all Ground s) b)
@@ -41,7 +41,7 @@ pub given_all : {S : Type 0} (l limit : Option ℕ) → l ≡ limit
 given_all l limit i takes s b old new h =
     subst (λ es. FoldsTo takes old es new) (sym (added_is l s b) ∙ ap (λ k. added_within k s b) i) h
 
--- the word of the allocator, of which the store's is one too
+-- the allocator refused, as it did if the store failed
 asked : (A : Type 0) (limit : Option ℕ) → Fails (λ _. Refused A) (λ w _. w) A limit → Refused A
 asked A limit (inl r) = r
 asked A limit (inr (t, w, r)) = by_reference A r
@@ -176,7 +176,7 @@ control_fed limit p s bs None l e h = tt
 control_fed limit p s bs (Some b) l e k =
     event_fed limit p s (take 1 bs) (Execute b) l e k.0 (k.1 limit)
 
--- who may be given what bytes add may be given what the machine emits of them
+-- an actor that may be given the events that bytes add may be given those that the machine emits
 pub may_feed : {S A : Type 0} (V : Actor S) (p : VTParser A) (old : S) (b : List ℕ)
     → p.has_failed ≡ false → MayGive V p b old
     → V.is_ready old ⊎ ((u : Unfinished) × Holds KeepsText p.machine.limit p.machine u

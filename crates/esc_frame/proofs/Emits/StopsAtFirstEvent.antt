@@ -34,7 +34,7 @@ use Rattle.esc_frame.proofs.ByteRuns.QuietRuns.{quiet_folds}
 use Rattle.esc_frame.proofs.ByteRuns.StringRuns.{apc_text, skip_holds, prefix_passes}
 use Rattle.esc_frame.proofs.Emits.EventsAreTheCuts.{after_append, events_append, added_is}
 
--- what a prefix of k bytes is to be
+-- says that a prefix of k bytes emits nothing and leaves a segment unfinished
 abbrev Still : Option ℕ → Unfinished → List ℕ → Type 0
 Still limit u ys = (events_all limit u ys ≡ []) × (is_ground (after_all u ys) ≡ false)
 
@@ -221,7 +221,7 @@ module _ {K A : Type 0} (keeps : Option ℕ → K → List ℕ
       (passes_before is_text_byte rest run k (omega arith) (prefix_passes rest run e)) u s h in
       (q.1, holds_no_ground keeps limit m (after_all u (take k rest)) q.0 (λ g. cc))
 
--- ---- bytes that tell nothing, and what follows them
+-- ---- bytes without events, and those after them
 
 module _ (limit : Option ℕ) (u v : Unfinished) (rest : List ℕ) (i n : ℕ)
     (here : after_all u (take i rest) ≡ v) (none : events_all limit u (take i rest) ≡ [])
@@ -271,7 +271,7 @@ opens_at limit rest l e h (suc zero) a b = escape_first limit rest l e
 opens_at limit rest l e h (suc (suc zero)) a b = h
 opens_at limit rest l e h (suc (suc (suc k))) a b = absurd (omega arith)
 
--- ESC and a byte that opens, and what a call takes of the bytes after them
+-- ---- ESC and a byte that opens, and the bytes after them that a call takes
 module _ (limit : Option ℕ) (u : Unfinished) (rest : List ℕ) (l : 2 < length rest)
     (e : get_or rest 0 0 ≡ 0x1b)
     (begin : (after_all Ground (take 2 rest) ≡ u)

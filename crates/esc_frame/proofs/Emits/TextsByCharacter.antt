@@ -12,7 +12,7 @@ use Rattle.esc_frame.specs.Events.Event.{Print}
 use Rattle.esc_frame.specs.Machine.Texts.{IsClearText, IsNext, HasTaken, HasSpelled}
 use Rattle.esc_frame.proofs.ByteRuns.ClearRuns.{chars_next, chars_stop, chars_done, chars_may}
 
--- what follows a character
+-- the text after a character is clear
 clear_past : (x : List ℕ) (c n : ℕ) → IsClearText x → IsNext x c n → IsClearText (drop n x)
 clear_past x c n t e = (
   IsUtf8-past_char x (drop n x) c t.0 e.0,

@@ -25,7 +25,7 @@ use Rattle.esc_frame.proofs.Cut.FirstSegment.Found.{OneSegment, OscAfter}
 use Rattle.esc_frame.proofs.Cut.CutIsUnique.{head_of, one_cut}
 use Rattle.esc_frame.proofs.Emits.EventsAreTheCuts.{after_append}
 
--- ---- segments that may grow, and with control sequences all of which an actor may be given a list
+-- ---- segments that may grow; and control sequences, for which an actor may be given a list
 
 abbrev holds : Bool → Segment → Bool
 holds w (Csi _ _ _) = w
@@ -84,7 +84,7 @@ module _ (w : Bool) where
   abbrev Holding : List ℕ → Type 0
   Holding s = (gs : List Segment) × IsCut s gs × (list_any (holds w) gs ≡ true)
 
-  -- ---- what an opener begins
+  -- ---- the segments that an opener begins
 
   -- such a segment begins with an opener
   abbrev Opened : Segment → Type 0
@@ -222,7 +222,7 @@ module _ (w : Bool) where
   more_holds s t (gs, cut, h) =
       subst (λ x. Holding (x ++ t)) (sym cut.whole) (more_in gs t cut.each h)
 
--- what begins with such a stream is one
+-- a stream that begins with such a stream is one
 pub more_grows : (s t : List ℕ) → MayGrow s → MayGrow (s ++ t)
 more_grows s t (gs, cut, h) = let m = more_holds false s t (gs, cut, sym (all_grow gs) ∙ h) in
     (m.0, m.1, all_grow m.0 ∙ m.2)
@@ -240,7 +240,7 @@ pub cut_takes : (s : List ℕ) (gs : List Segment) → IsCut s gs → MayTake s
     → list_any may_take gs ≡ true
 cut_takes s gs cut (hs, other, h) = ap (list_any may_take) (one_cut s gs hs cut other) ∙ h
 
--- a stream that may grow is one of which an actor may be given a list
+-- an actor may be given a list for a stream that may grow
 some_take : (gs : List Segment) → list_any may_grow gs ≡ true → list_any may_take gs ≡ true
 some_take [] h = absurd cc
 some_take (g ∷ gs) h = elim (or_cases (may_grow g) (list_any may_grow gs) h) [

@@ -1,5 +1,4 @@
--- A call keeps the machine's limit: what a later call does under its limit, it does under that of
--- the machine before.
+-- A call keeps the machine's limit: a later call acts under the limit of the machine before.
 use Rattle.std.proofs.Common.{ℕ, ◌≡◌, List, Option, Result, sym, subst}
 use Rattle.esc_frame.specs.declared.machine.Machine.{Machine}
 use Rattle.esc_frame.specs.Events.{Event, Awaits}

@@ -1,4 +1,4 @@
--- What is kept of the unfinished segment is what is kept of the cut, and within the limit.
+-- As many bytes are kept of the unfinished segment as of the cut, and no more than the limit.
 use Rattle.std.proofs.Common.{ℕ, ◌≡◌, ◌≤◌, true, false, Bool, List, [], ◌∷◌, ◌++◌, Option, Some, None, IfSome, min, nat_le, length, refl, ap, ◌∙◌, arith}
 use Rattle.std.proofs.lemmas.List.{append-nil}
 use Rattle.std.proofs.lemmas.Bool.Decides.{nat_tests}

@@ -13,7 +13,7 @@ use Rattle.esc_frame.specs.Segments.OscUnit.{One, Sequence, BrokenOff}
 use Rattle.esc_frame.specs.Leads.{Unfinished, AreFinished, OpenShape, open_bytes, HasCut, finished_events_within, emitted_open}
 use Rattle.esc_frame.specs.Leads.Unfinished.{Ground}
 
--- ---- what follows may grow
+-- ---- the bytes after it may grow
 
 broken_more : (f t : List ℕ) (b : ℕ) → is_broken_before f t ≡ true
     → is_broken_before f (t ++ b ∷ []) ≡ true
@@ -135,7 +135,7 @@ pub record Base (limit : Option ℕ) (stream : List ℕ) (events : List Event) (
   pub finished : AreFinished gs last
   pub emitted : events ≡ finished_events_within limit gs ++ emitted_last
 
--- Of a stream the finished segments are all but these last bytes.
+-- The finished segments of a stream are all but these last bytes.
 pub record Meets (limit : Option ℕ) (stream : List ℕ) (events : List Event) (gs : List Segment)
     (last : List ℕ) : Type 0 where
   pub whole : stream ≡ joined_bytes gs ++ last
@@ -202,7 +202,7 @@ module _ {limit : Option ℕ} where
     emitted = m.emitted ∙ sym (append-nil (finished_events_within limit gs));
   }
 
-  -- what emitted nothing may be anew
+  -- bytes that emitted nothing may begin a segment
   pub meets : (stream : List ℕ) (events : List Event) (gs : List Segment) (last : List ℕ) (b : ℕ)
       → Base limit stream events gs last []
       → Meets limit (stream ++ b ∷ []) events gs (last ++ b ∷ [])

@@ -1,4 +1,4 @@
--- One byte more on a cut, by what is unfinished and by the class of the byte.
+-- One byte more comes on a cut, by the unfinished segment and by the class of the byte.
 use Rattle.std.proofs.Common.{ℕ, ◌≡◌, Bool, true, false, not, if◌then◌else◌, ◌&&◌, List, [], ◌∷◌, ◌++◌, refl, ap, sym, ◌∙◌, subst, append_assoc, Option}
 use Rattle.std.proofs.lemmas.List.{append-nil}
 use Rattle.esc_frame.specs.declared.classes.Class.{Class}
@@ -51,7 +51,7 @@ opened_shape kind.Sos o h = (refl, h, refl)
 opened_shape kind.Pm o h = (refl, h, refl)
 opened_shape kind.Apc o h = (h, refl)
 
--- what is no breaker and not of a body is a final byte
+-- a byte that is no breaker and not of a body is a final byte
 body_ends : (c : Class) → is_breaker c ≡ false → in_csi c ≡ false → ends_csi c ≡ true
 body_ends (Introducer k) h n = refl
 body_ends Final h n = refl
@@ -64,7 +64,7 @@ lead_code = refl
 pair_breaks : (b : ℕ) → is_raw (class_of b) ≡ true → breaks_text (0xc2 ∷ b ∷ []) ≡ true
 pair_breaks b h = rw (lead_code, h) refl
 
--- what follows the header has emitted, and emits more
+-- the data after the header has emitted these events, and emits more
 emitted_more : (ds bs cs : List Event) (w : Bool)
     → ds ++ (if w then bs ++ cs else []) ≡ (ds ++ (if w then bs else [])) ++ (if w then cs else [])
 emitted_more ds bs cs true = sym (append_assoc ds bs cs)
@@ -157,7 +157,7 @@ module _ (limit : Option ℕ) where
   joins w es first m h =
       (h.0, subst (λ x. HasCut limit w x h.0 m.0) (append_assoc es first m.1) h.1)
 
-  -- what is unfinished is left, and the byte stands in ground
+  -- the unfinished segment is left, and the byte stands in ground
   break_step : (s : List ℕ) (es : List Event) (gs : List Segment) (last : List ℕ) (ts : List Event)
       (g : Segment) (first : List Event) (b : ℕ) (c : Class)
       → class_of b ≡ c → Base limit s es gs last ts

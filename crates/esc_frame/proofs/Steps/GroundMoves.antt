@@ -1,5 +1,4 @@
--- What a byte does that breaks off a sequence or a string, or that is a character or a control in
--- ground.
+-- A byte breaks off a sequence or a string, or is a character or a control in ground.
 use Rattle.std.proofs.Common.{ℕ, ◌≡◌, Bool, true, ◌||◌, List, [], ◌∷◌, Option, Result, if◌then◌else◌, refl, ap, sym, subst}
 use Rattle.esc_frame.specs.declared.classes.Class.{Class}
 use Rattle.esc_frame.specs.declared.classes.Class.TheVariants.{C0, Bell, Breaks}
@@ -18,7 +17,7 @@ module _ {K A S E : Type 0} (keeps : Option ℕ → K → List ℕ → Type 0) (
     (limit : Option ℕ) (own : Bool) (takes refuses : S → Event → S → Type 0)
     (result : Result (Unit {0}) E) (u : Unfinished) (b : ℕ) (class : Class) (m : Machine K A)
     (old new : S) (so : is_breaker class ≡ true) where
-  -- after what the string emits
+  -- it comes after the events of the string
   pub broken_emitted : Moved keeps may_fail limit own takes refuses result
       (emitting (leaving limit u) (ground_move b class)) m old new
       → Moved keeps may_fail limit own takes refuses result (move_inside limit u b class) m old new

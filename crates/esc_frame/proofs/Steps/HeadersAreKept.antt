@@ -1,4 +1,4 @@
--- The header of a device control string, from what is kept of it.
+-- The header of a device control string is read from its kept bytes.
 use Rattle.std.proofs.Common.{ℕ, ℤ, ◌≡◌, Bool, true, false, not, cond, if◌then◌else◌, List, [], ◌∷◌, ◌++◌, length, take, map, pos, nat_lt, refl, ap}
 use Rattle.std.proofs.Common.{sym, Option}
 use Rattle.std.proofs.Common.{◌∙◌, arith}
@@ -99,7 +99,7 @@ params_are x bytes ns h e n =
     n ∙ ap (λ y. map (λ p. pos (capped_at_i64 (value_after 0 p))) (parts_of y))
     (e ∙ (header_kept x h).0)
 
--- its hook, from what is kept
+-- its hook comes from its kept bytes
 pub hook_is : (h : DcsHeader) (x bytes is : List ℕ) (ns : List ℤ) (b : ℕ) → is_dcs_header x ≡ true
     → KeepsDcs h x → bytes ≡ parameters_of x
     → ns ≡ map (λ p. pos (capped_at_i64 (value_after 0 p))) (parts_of bytes)

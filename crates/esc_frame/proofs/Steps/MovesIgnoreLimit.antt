@@ -1,4 +1,4 @@
--- What a byte makes of what is unfinished does not depend on the limit.
+-- The unfinished segment after a byte does not depend on the limit.
 use Rattle.std.proofs.Common.{ℕ, ◌≡◌, Bool, true, false, List, [], ◌∷◌, ◌++◌, Option, None, refl}
 use Rattle.esc_frame.specs.declared.classes.Class.{Class}
 use Rattle.esc_frame.specs.declared.classes.Class.TheVariants.{Lead}

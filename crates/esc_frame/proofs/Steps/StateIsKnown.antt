@@ -1,4 +1,4 @@
--- What is unfinished, by the machine's state.
+-- The machine's state says which segment is unfinished.
 use Rattle.std.proofs.Common.{ℕ, ◌≡◌, ◌⊎◌, inl, inr, Bool, true, false, not, ◌&&◌, if◌then◌else◌, List, [], refl, ap, sym, subst, ◌∙◌, Option}
 use Rattle.esc_frame.specs.declared.classes.Kind.{Kind}
 use Rattle.esc_frame.specs.declared.machine.Machine.{Machine}
@@ -16,7 +16,7 @@ use Rattle.esc_frame.proofs.Borrow.BytesAreLent.{is_string, unborrowed_fresh}
 
 module _ {K A : Type 0} (keeps : Option ℕ → K → List ℕ
     → Type 0) (limit : Option ℕ) (m : Machine K A) where
-  -- what may be unfinished in a state, and that it is kept
+  -- says which segment may be unfinished in a state, and that it is kept
   abbrev pub IsIn : State → Unfinished → Type 0
   IsIn state.Ground u = (u ≡ Ground)
       ⊎ ((f : List ℕ) × Holds keeps limit m (Pending f) × (u ≡ Pending f))
@@ -83,7 +83,7 @@ module _ {K A : Type 0} (keeps : Option ℕ → K → List ℕ
       whole (inr (o, ps, f, k, e)) = let n : true ≡ false = ap is_empty (sym p ∙ k.2) ∙ k.3 in
           absurd cc
 
-  -- what is unfinished where a byte is taken by itself
+  -- a byte that is taken by itself is in no string
   pub no_string : (u : Unfinished) → Holds keeps limit m u
       → is_outside_text m.state (prefix_of m.pending) ≡ true → is_string u ≡ false
   no_string (InOsc o ps) h k =
@@ -94,7 +94,7 @@ module _ {K A : Type 0} (keeps : Option ℕ → K → List ℕ
       sym k ∙ ap (λ s. is_outside_text s (prefix_of m.pending)) h.0 in cc
   no_string _ h k = refl
 
-  -- nothing is fresh in what is passed over, nor in the data of a device control string
+  -- nothing is fresh in an ignored string, nor in the data of a device control string
   skip_unborrowed : (u : Unfinished) → IsIn state.Ignored u → is_fresh u ≡ false
   skip_unborrowed u (inl i) = rw i.4 refl
   skip_unborrowed u (inr i) = rw i.3 refl

@@ -1,5 +1,5 @@
--- What an actor may be given: a promise P of one of the things that the machine may keep before a
--- call. No contract of `VTParser` cites it.
+-- An actor may be given some events: a promise P holds of one of the things that the machine may
+-- keep before a call. No contract of `VTParser` cites this.
 use Rattle.std.specs.Prelude.{ℕ, ◌≡◌, true, List, [], take, Option}
 use Rattle.esc_frame.specs.declared.machine.Machine.{Machine}
 use Rattle.esc_frame.specs.declared.unfinished.body.CsiBody.{CsiBody}
@@ -15,13 +15,13 @@ use Rattle.esc_frame.specs.Machine.Keeps.{Keeps, KeepsBody, KeepsDcs, parameters
 use Rattle.esc_frame.specs.Machine.Moves.{after_all, events_all}
 use Rattle.esc_frame.specs.Segments.{Opener, OscUnit, text_of}
 
--- what is unfinished
+-- says P of an unfinished segment that the machine keeps
 abbrev pub KeptSegment : {K A : Type 0} → Keeper K → Machine K A → (Unfinished → Type 0)
     → Type 0
 KeptSegment K machine P = (u : Unfinished) × Holds K.keeps machine.limit machine u × P u
 
--- what was unfinished before the first bytes of the rest, a run of this length that emits nothing,
--- and is kept with these
+-- says P of the segment that was unfinished before the first bytes of the rest, a run of this
+-- length that emits nothing, and that is kept with these
 abbrev pub KeptAfter : {K A : Type 0} → Keeper K → List ℕ → ℕ → Machine K A
     → (Unfinished → Type 0)
     → Type 0
@@ -70,7 +70,7 @@ KeptOscPending K machine P = (o : Opener) × (ps : List OscUnit)
     × StoresText K machine (text_of ps)
     × P (InOscPending o ps (prefix_of machine.pending))
 
--- of which no text has come
+-- says P of an OSC without text so far
 abbrev pub NewOsc : (Unfinished → Type 0) → Type 0
 NewOsc P = (o : Opener) × (ps : List OscUnit) × (text_of ps ≡ []) × P (InOsc o ps)
 

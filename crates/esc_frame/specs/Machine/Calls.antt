@@ -1,4 +1,4 @@
--- What a call says of the machine and the actor. No contract of `VTParser` cites it.
+-- A call does this to the machine and the actor. No contract of `VTParser` cites it.
 use Rattle.std.specs.Prelude.{ℕ, ◌≡◌, ◌≤◌, ◌<◌, Bool, true, false, not, List, [], ◌∷◌, length, take, Option, Result, MatchResult, IfOk, ◌⊎◌}
 use Rattle.std.specs.List.{FoldsTo}
 use denote.Bor.{Bor}
@@ -22,9 +22,9 @@ Stops stops A limit = (t : List ℕ) × (is_within limit (length t) ≡ true) ×
 abbrev pub Fails : (Option ℕ → Type 0) → (Type 0 → List ℕ → Type 0) → Type 0 → Option ℕ → Type 0
 Fails may_fail stops A limit = may_fail limit ⊎ Stops stops A limit
 
--- The machine made this move: it keeps what is unfinished after it, and the actor was given its
--- events. Where the result is an error the actor was given a prefix of them; the machine stopped by
--- itself only where `own` holds, for the reason `may_fail`.
+-- The machine made this move: it keeps the unfinished segment after it, and the actor was given its
+-- events. If the result is an error the actor was given a prefix of them; the machine stopped by
+-- itself only if `own` holds, for the reason `may_fail`.
 abbrev pub Moved : {K A S E : Type 0} → (Option ℕ → K → List ℕ → Type 0) → (Option ℕ → Type 0)
     → Option ℕ → Bool
     → (S → Event → S → Type 0) → (S → Event → S → Type 0) → Result (Unit {0}) E → Move
@@ -39,9 +39,9 @@ Moved {K} {A} keeps may_fail limit own takes refuses result m machine old new =
 abbrev pub StaysFresh : Unfinished → List ℕ → ℕ → Type 0
 StaysFresh u rest n = is_borrowable u rest ≡ true → is_fresh (after_all u (take n rest)) ≡ true
 
--- The call took n bytes of the rest, where u was unfinished before: the machine keeps what is
--- unfinished after them, and the actor was given their events. Where the result is an error the
--- actor was given a prefix of the events of the rest; the machine stopped by itself only where its
+-- The call took n bytes of the rest, where u was unfinished before: the machine keeps the
+-- unfinished segment after them, and the actor was given their events. If the result is an error
+-- the actor was given a prefix of the events of the rest; the machine stopped by itself only if its
 -- memory may grow and memory was refused.
 abbrev pub Took : {K A S E : Type 0} → (Option ℕ → K → List ℕ → Type 0) → (Option ℕ → Type 0)
     → Option ℕ

@@ -1,5 +1,5 @@
--- What a call is given: a promise P of each thing that the machine may keep before it. Only private
--- contracts cite it.
+-- A promise P holds of each thing that the machine may keep before a call. Only private contracts
+-- cite this.
 use Rattle.std.specs.Prelude.{ℕ, ◌≡◌, true, false, List, [], ◌+◌, take, Bool, Option}
 use Rattle.esc_frame.specs.declared.classes.Kind.{Kind}
 use Rattle.esc_frame.specs.declared.unfinished.header.DcsHeader.{DcsHeader}
@@ -84,7 +84,7 @@ KeepingOscPending K self P =
     → StoresText K self.entry.now (text_of ps) → prefix_of self.entry.now.pending ≡ f
     → P (InOscPending o ps f)
 
--- of which no text has come
+-- says P of an OSC without text so far
 abbrev pub FreshOsc : (Unfinished → Type 0) → Type 0
 FreshOsc P = (o : Opener) (ps : List OscUnit) → text_of ps ≡ [] → P (InOsc o ps)
 
@@ -101,7 +101,7 @@ KeepingApc K self P =
     (o : Opener) (d : List ℕ) → StoresText K self.entry.now (bytes_of_class is_text d)
     → P (InApc o d)
 
--- of which no text has come
+-- says P of an APC without text so far
 abbrev pub FreshApc : (Unfinished → Type 0) → Type 0
 FreshApc P = (o : Opener) (d : List ℕ) → bytes_of_class is_text d ≡ [] → P (InApc o d)
 
@@ -143,7 +143,7 @@ InDcsIgnore P =
     → is_read limit (without_noise x) ≡ false
     → P limit (InData o x f d)
 
--- ---- sos and pm strings, of which nothing is kept
+-- ---- sos and pm strings, which are not kept
 
 abbrev pub InIgnoredString : (Option ℕ → Unfinished → Type 0) → Type 0
 InIgnoredString P =

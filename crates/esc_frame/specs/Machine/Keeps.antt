@@ -1,5 +1,5 @@
--- What the machine's small parts keep of the bytes that they were given. Only private contracts
--- cite it.
+-- The machine's parts keep some of the bytes that they were given. Only private contracts cite
+-- this.
 use Rattle.std.specs.Prelude.{ℕ, ◌≡◌, ◌+◌, ◌-◌, ◌*◌, Bool, true, false, not, nat_lt, if◌then◌else◌, List, [], ◌∷◌, ◌++◌, length, take, Option, Some, None}
 use Rattle.std.specs.Prelude.{pos, vec_capacity}
 use Rattle.std.specs.List.{filter}
@@ -90,8 +90,8 @@ is_formed _ = true
 abbrev pub KeepsBody : CsiBody → List ℕ → Type 0
 KeepsBody e x = KeepsEntries e.csi_params x × (e.form ≡ form_from form.Empty x)
 
--- this text is kept, each byte of which counts; or nothing, not even memory, where it is past the
--- limit
+-- says that this text is kept, each byte of which counts; or nothing, not even memory, if it is
+-- past the limit
 pub record KeepsText {A : Type 0} (limit : Option ℕ) (k : HeapBuffer A) (text : List ℕ) : Type
     0 where
   pub over : k.is_over ≡ not (is_within limit (length text))

@@ -1,5 +1,5 @@
--- What a call does, said of a store and an actor (`K.TextRoom`, `V.EventSink`), and of the machine
--- and the actor before the call and after it (`self`, `actor`). No contract of `VTParser` cites it.
+-- A call does this, said of a store and an actor (`K.TextRoom`, `V.EventSink`), and of the machine
+-- and the actor before and after it (`self`, `actor`). No contract of `VTParser` cites it.
 use Rattle.std.specs.Prelude.{ℕ, ◌≡◌, Bool, List, Option, None, Result, IfOk, OnOk}
 use Rattle.esc_frame.specs.declared.taker.EventSink.{Ghosts as Actor}
 use Rattle.esc_frame.specs.declared.machine.Machine.{Machine}
@@ -30,7 +30,7 @@ abbrev pub Emits : {S E : Type 0} → Actor S → Type 0 → Result (Unit {0}) E
 Emits V own result events actor =
     Takes own V.takes V.refuses result actor.entry.now events actor.exit.now
 
--- one move: what is unfinished then is kept, and the events are emitted
+-- says that one move was made: the unfinished segment after it is kept, and the events are emitted
 abbrev pub Makes : {K A S E : Type 0} → Keeper K → Actor S → Option ℕ → Bool
     → Result (Unit {0}) E → Move → Changed (Machine K A) → Changed S
     → Type 0
@@ -55,7 +55,7 @@ Consumes {A} K V limit result u rest self actor =
     self.exit.now
     actor.entry.now actor.exit.now
 
--- the same in ground, of one byte at least, none of which but the last emits an event
+-- says the same in ground, of at least one byte, none of which but the last emits an event
 abbrev pub ConsumesSome : {K A S E : Type 0} → Keeper K → Actor S → Option ℕ
     → Result ℕ E → List ℕ → Changed (Machine K A) → Changed S
     → Type 0

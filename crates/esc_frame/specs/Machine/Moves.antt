@@ -1,5 +1,4 @@
--- The byte machine: what one byte makes of what is unfinished, and what it emits. Only private
--- contracts cite it.
+-- One byte changes the unfinished segment, and emits events. Only private contracts cite this.
 use Rattle.std.specs.Prelude.{ℕ, ◌≡◌, ◌<◌, ◌+◌, Bool, true, false, not, ◌||◌, ◌&&◌, if◌then◌else◌, List, [], ◌∷◌, ◌++◌, take, Option, None}
 use Rattle.esc_frame.specs.declared.classes.Class.{Class}
 use Rattle.esc_frame.specs.declared.classes.Class.TheVariants.{Introducer, High, Lead, Bell, Breaks}
@@ -19,11 +18,11 @@ use Rattle.esc_frame.specs.Segments.OscUnit.{One, Sequence, BrokenOff}
 use Rattle.esc_frame.specs.Leads.{Unfinished}
 use Rattle.esc_frame.specs.Leads.Unfinished.{Ground, Pending, InEscape, InCsi, InOsc, InOscPending, InDcs, InData, InApc, InIgnored}
 
--- what is unfinished after a byte, and the events that the byte emits
+-- the unfinished segment after a byte, and the events that the byte emits
 abbrev pub Move : Type 0
 Move = Unfinished × List Event
 
--- these events, and then what a byte does
+-- a move with these events before its own
 abbrev pub emitting : List Event → Move → Move
 emitting es m = (m.0, es ++ m.1)
 
@@ -55,7 +54,7 @@ pair_move b c = (Ground, if is_c1 c then Execute b ∷ [] else [])
 abbrev pub noise : ℕ → Class → List Event
 noise b c = if is_c0 c then Execute b ∷ [] else []
 
--- the final byte of an escape sequence, or what it opens
+-- the move of the final byte of an escape sequence, or of an opener's letter
 abbrev pub final_escape : List ℕ → ℕ → Class → Move
 final_escape x b (Introducer k) =
     if is_empty (without_noise x) then (unfinished_at_opener k (Long x), [])
@@ -67,7 +66,7 @@ abbrev pub hooks : Option ℕ → List ℕ → ℕ → List Event
 hooks limit x b = if is_read limit (without_noise x) then hook_event (without_noise x) b ∷ []
     else []
 
--- what a sequence or a string emits where it is left
+-- the events that a sequence or a string emits at its end
 abbrev pub leaving : Option ℕ → Unfinished → List Event
 leaving limit (InData o x f d) = if is_read limit (without_noise x) then DcsUnhook ∷ [] else []
 leaving limit (InApc o d) = apc_events limit (bytes_of_class is_text d)
@@ -100,7 +99,7 @@ goes_on limit (InOsc o ps) b c =
     if in_osc c then (InOsc o (ps ++ One b ∷ []), []) else final_osc limit o ps b c
 goes_on limit u b c = (u, [])
 
--- a byte in a sequence or a string: a breaker breaks it off, and does what it does in ground
+-- the move of a byte in a sequence or a string: a breaker breaks it off, and acts as in ground
 abbrev pub move_inside : Option ℕ → Unfinished → ℕ → Class → Move
 move_inside limit u b c =
     if is_breaker c then emitting (leaving limit u) (ground_move b c) else goes_on limit u b c
@@ -131,14 +130,14 @@ osc_pending_move limit o ps f b c outcomes.More = (InOscPending o ps (f ++ b ∷
 osc_pending_move limit o ps f b c outcomes.Broken =
     move_inside limit (InOsc o (ps ++ BrokenOff f ∷ [])) b c
 
--- what a byte of this class makes of what is unfinished
+-- the move of a byte of this class
 abbrev pub move : Option ℕ → Unfinished → ℕ → Class → Move
 move limit Ground b c = ground_move b c
 move limit (Pending f) b c = pending_move f b c (outcome f b)
 move limit (InOscPending o ps f) b c = osc_pending_move limit o ps f b c (outcome f b)
 move limit u b c = move_inside limit u b c
 
--- what is unfinished does not depend on the limit
+-- the unfinished segment after a byte, which does not depend on the limit
 abbrev pub after_by : Unfinished → ℕ → Class → Unfinished
 after_by u b c = (move None u b c).0
 
@@ -227,7 +226,7 @@ may_grow_within u bs = reaches_growing u bs && not (is_borrowable u bs)
 
 -- ---- prefixes that stop at the first event
 
--- Of the first n bytes of the rest, where u was unfinished before, all but the last emit nothing
+-- All but the last of the first n bytes of the rest, where u was unfinished before, emit nothing
 -- and leave a segment unfinished.
 abbrev pub IsStill : Option ℕ → Unfinished → List ℕ → ℕ → Type 0
 IsStill limit u rest n = (k : ℕ) → 0 < k → k < n → (events_all limit u (take k rest) ≡ [])

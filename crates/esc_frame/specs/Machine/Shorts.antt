@@ -30,7 +30,7 @@ pub record IsPrefix (items : List CsiParam) (x : List ℕ) : Type 0 where
   pub so : IsAfter items x
   pub closed : number_of_run None x ≡ None
 
--- a body of which all parameters are kept: these
+-- says that these are the parameters of a body, and that all of them are kept
 pub record IsShort (items : List CsiParam) (x : List ℕ) : Type 0 where
   pub kept : items ≡ kept_csi_params x
   pub more : false ≡ has_more_csi_params x
@@ -44,7 +44,7 @@ pub record ReadsNumber (number : ℕ) (run : ℕ) (rest : List ℕ) : Type 0 whe
   pub value : number ≡ capped_at_i64 (value_after 0 (take run rest))
   pub small : number ≤ 0x7fff_ffff_ffff_ffff
 
--- ---- what is read into a list, whose entries are these parameters
+-- ---- reading into a list, whose entries are these parameters
 
 -- the first so many of them
 abbrev pub first_params : {E : Type 0} → (E → CsiParam) → ℕ → List E → List CsiParam
@@ -68,7 +68,7 @@ pub record PutsNumber {E : Type 0} (param : E → CsiParam) (params : Changed (L
   -- at least one digit
   pub some : (0 < taken) × (taken ≤ length rest)
   pub after : IsFollowed rest taken next
-  -- what was a prefix of a body is one that ends in a number
+  -- a prefix of a body becomes one that ends in a number
   pub keeps : (x : List ℕ) → IsPrefix (first_params param count params.entry.now) x
       → IsAfter (first_params param (count + 1) params.exit.now) (x ++ take taken rest)
 

@@ -1,5 +1,5 @@
--- What a call that takes bytes in one state of the machine is given, and what it says, in the same
--- words for each state. Contracts of parts cite it, here and in `heapless_parser`.
+-- A call that takes bytes in one state of the machine requires and promises this, in the same words
+-- for each state. Contracts of parts cite it, here and in `heapless_parser`.
 use Rattle.std.specs.Prelude.{ℕ, ◌≡◌, ◌<◌, ◌≤◌, ◌+◌, ◌⊎◌, true, Bool, List, [], Option, Result, length, take, drop, slice_index}
 use Rattle.std.specs.List.{list_all}
 use Rattle.esc_values.specs.declared.csi_param.CsiParam.{CsiParam}
@@ -19,7 +19,7 @@ use Rattle.esc_frame.specs.Machine.Prefixes.{prefix_of}
 use Rattle.esc_frame.specs.Machine.Shorts.{IsShort}
 use Rattle.esc_frame.specs.Sequences.{is_from}
 
--- what the machine may keep in a state: this holds of each, or of one
+-- says P of the segments that the machine may keep in a state: of each, or of one
 abbrev pub InState : Type 1
 InState = (Unfinished → Type 0) → Type 0
 
@@ -91,7 +91,7 @@ AtUnborrowed rest Keeping P = Keeping (Unborrowed rest P)
 pub record TakesPart {T A S E : Type 0} (Keeping : InState) (K : Keeper T) (V : Actor S)
     (result : Result ℕ E) (rest : List ℕ) (self : Changed (Machine T A)) (actor : Changed S)
     : Type 0 where
-  -- what was unfinished and is kept, goes on with what was taken
+  -- the kept unfinished segment goes on with the bytes that were taken
   pub took : Keeping (λ u. Consumes K V self.entry.now.limit result u rest self actor)
   -- one byte at least was
   pub count : Advances V result rest self actor

@@ -1,4 +1,4 @@
-//! The machine in device control strings.
+//! These methods parse device control strings.
 #![tactic(auto)]
 
 ghost use Rattle.std.specs.Prelude.{◌≡◌, ◌⊎◌, ◌<◌, ◌++◌, ℕ, List, Option, [], ◌∷◌, true, length, OnOk, OnErr};
@@ -24,7 +24,7 @@ use crate::unfinished::store::TextRoom;
 use std::alloc::Allocator;
 
 impl<K: TextRoom, A: Allocator> Machine<K, A> {
-    /// A byte after a DCS's opener and x.
+    /// Takes a byte of a device control string's header.
     #[tactic(auto, using(crate::proofs::Emits::EventsFold::takes_moved))]
     pub fn in_dcs<V: EventSink>(&mut self, b: u8, class: Class, actor: &mut V) -> Result<()>
         requires { V.is_ready actor.old ⊎ KeptDcs K.TextRoom self.old (λ u.
@@ -56,7 +56,7 @@ impl<K: TextRoom, A: Allocator> Machine<K, A> {
         }
     }
 
-    /// A byte of a DCS's data, whose header has its form.
+    /// Takes a byte of the data of a device control string whose header has its form.
     #[tactic(auto, using(crate::proofs::Emits::EventsFold::receives_moved))]
     pub fn in_data<V: EventSink>(&mut self, b: u8, class: Class, actor: &mut V) -> Result<()>
         requires { V.is_ready actor.old ⊎ KeptPassthrough (λ limit u.
@@ -80,7 +80,7 @@ impl<K: TextRoom, A: Allocator> Machine<K, A> {
         }
     }
 
-    // A breaker after a DCS's data.
+    // Takes the breaker after a DCS's data.
     fn leave_data<V: EventSink>(&mut self, b: u8, class: Class, actor: &mut V) -> Result<()>
         requires { MayEmit V.EventSink (DcsUnhook ∷ (ground_move b class).1) actor.old }
         ensures moved { (limit : Option ℕ)
@@ -92,7 +92,7 @@ impl<K: TextRoom, A: Allocator> Machine<K, A> {
         self.in_ground(b, class, actor)
     }
 
-    /// The run of 20-7E in the data of a device control string.
+    /// Takes the run of 20-7E in the data of a device control string.
     #[inline(always)]
     pub fn parse_in_data<V: EventSink>(&mut self, rest: &[u8], actor: &mut V) -> Result<usize>
         requires some { 0 < length rest.now }
@@ -131,7 +131,7 @@ fn keep<K: TextRoom>(
     }
 }
 
-// Whether the header is hooked: its parameter bytes are within the limit, and it has its form.
+// Returns whether the header is hooked: its parameters are within the limit, and it has its form.
 fn is_read<K: TextRoom>(header: &DcsHeader, parameters: &K) -> bool
     ensures { KeepingHeader K.TextRoom parameters.now header.now (λ limit x.
         result ≡ is_read limit x) }
@@ -139,7 +139,7 @@ fn is_read<K: TextRoom>(header: &DcsHeader, parameters: &K) -> bool
     !parameters.is_over() && header.is_formed()
 }
 
-// The hook of a header that is read, emitted.
+// Emits the hook of a header that is read.
 fn hook<K: TextRoom, A: Allocator, V: EventSink>(
     header: &DcsHeader,
     parameters: &K,

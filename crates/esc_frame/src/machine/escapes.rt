@@ -1,4 +1,4 @@
-//! The machine in escape sequences and control sequences.
+//! These methods parse escape sequences and control sequences.
 #![tactic(auto)]
 
 ghost use Rattle.std.specs.Prelude.{◌≡◌, ◌⊎◌, ◌≤◌, ◌<◌, ◌++◌, ◌+◌, ℕ, List, Option, None, [], ◌∷◌, length, take, true, false, slice_index, OnOk};
@@ -27,7 +27,7 @@ use crate::utf8::sequence::{Pending, lies_from};
 use std::alloc::Allocator;
 
 impl<K: TextRoom, A: Allocator> Machine<K, A> {
-    /// A byte after ESC x.
+    /// Takes a byte after ESC and intermediates.
     #[inline(always)]
     #[tactic(auto, using(crate::proofs::Emits::EventsFold::receives_moved))]
     pub fn in_escape<V: EventSink>(&mut self, b: u8, class: Class, actor: &mut V) -> Result<()>
@@ -58,7 +58,7 @@ impl<K: TextRoom, A: Allocator> Machine<K, A> {
         }
     }
 
-    /// A byte in an escape sequence.
+    /// Takes a byte of an escape sequence.
     #[inline(always)]
     pub fn parse_in_escape<V: EventSink>(&mut self, rest: &[u8], actor: &mut V) -> Result<usize>
         requires some { 0 < length rest.now }
@@ -72,7 +72,7 @@ impl<K: TextRoom, A: Allocator> Machine<K, A> {
         Ok(1)
     }
 
-    // The final byte of an escape sequence.
+    // Takes the final byte of an escape sequence, and dispatches the sequence.
     fn dispatch_escape<V: EventSink>(&mut self, b: u8, actor: &mut V) -> Result<()>
         requires { MayEmit V.EventSink (EscDispatch
             (take self.old.intermediates.kept self.old.intermediates.bytes)
@@ -93,7 +93,7 @@ impl<K: TextRoom, A: Allocator> Machine<K, A> {
         )
     }
 
-    /// A byte after a CSI's opener and x.
+    /// Takes a byte after a CSI's opener and part of its body.
     #[tactic(auto, using(crate::proofs::Emits::EventsFold::receives_moved))]
     pub fn in_csi<V: EventSink>(&mut self, b: u8, class: Class, actor: &mut V) -> Result<()>
         requires { V.is_ready actor.old ⊎ KeptCsi self.old (λ limit u.
@@ -115,7 +115,7 @@ impl<K: TextRoom, A: Allocator> Machine<K, A> {
         }
     }
 
-    // The final byte of a CSI.
+    // Takes the final byte of a CSI, and dispatches the sequence if its body has its form.
     #[tactic(auto, using(crate::proofs::Emits::EventsFold::quiet_moved))]
     fn dispatch_csi<V: EventSink>(&mut self, b: u8, actor: &mut V) -> Result<()>
         requires { V.is_ready actor.old ⊎ KeptBody self.old.body (λ x.
@@ -133,7 +133,7 @@ impl<K: TextRoom, A: Allocator> Machine<K, A> {
         }
     }
 
-    /// A control sequence that is short and whole at the start of the bytes; else nothing.
+    /// Takes a short control sequence that is whole at the start of the bytes; else takes nothing.
     #[inline(always)]
     pub fn parse_short_csi<V: EventSink>(&mut self, rest: &[u8], actor: &mut V) -> Result<usize>
         requires escape { slice_index rest.now 0 ≡ 0x1b }
@@ -155,7 +155,7 @@ impl<K: TextRoom, A: Allocator> Machine<K, A> {
         Ok(body.length + 3)
     }
 
-    /// The run of 20-3F in a control sequence, and the byte after it.
+    /// Takes the run of 20-3F in a control sequence, and the byte after it.
     #[inline(always)]
     pub fn parse_in_csi<V: EventSink>(&mut self, rest: &[u8], actor: &mut V) -> Result<usize>
         requires some { 0 < length rest.now }
@@ -170,7 +170,7 @@ impl<K: TextRoom, A: Allocator> Machine<K, A> {
     }
 }
 
-// A control sequence whose body has its form, emitted.
+// Emits a control sequence whose body has its form.
 #[tactic(auto, using(crate::proofs::Emits::EventsFold::receives_takes))]
 fn emit_csi<V: EventSink>(body: &mut CsiBody, b: u8, actor: &mut V) -> Result<()>
     requires { V.is_ready actor.old ⊎ KeptBody body.old (λ x.

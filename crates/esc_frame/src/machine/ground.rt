@@ -1,4 +1,4 @@
-//! The machine in ground: characters, controls, and what opens.
+//! These methods parse characters, controls and openers in ground.
 #![tactic(auto)]
 
 ghost use Rattle.std.specs.Prelude.{◌≡◌, ◌<◌, ◌++◌, ◌∷◌, ℕ, List, Option, None, [], Bool, true, length};
@@ -22,7 +22,7 @@ use crate::utf8::sequence::{Outcome, Pending};
 use std::alloc::Allocator;
 
 impl<K: TextRoom, A: Allocator> Machine<K, A> {
-    /// A byte in ground, with nothing pending.
+    /// Takes a byte in ground, with nothing pending.
     #[tactic(auto, using(crate::proofs::Emits::EventsFold::receives_moved))]
     pub fn in_ground<V: EventSink>(&mut self, b: u8, class: Class, actor: &mut V) -> Result<()>
         requires { MayEmit V.EventSink (ground_move b class).1 actor.old }
@@ -47,7 +47,7 @@ impl<K: TextRoom, A: Allocator> Machine<K, A> {
         }
     }
 
-    /// ESC begins an escape sequence.
+    /// Begins an escape sequence, after ESC.
     #[inline(always)]
     pub fn enter_escape(&mut self)
         ensures holds { (limit : Option ℕ) → Holds K.keeps limit self.new (InEscape []) }
@@ -57,7 +57,7 @@ impl<K: TextRoom, A: Allocator> Machine<K, A> {
         self.state = State::Escape;
     }
 
-    /// What `in_ground` does, after a string: mostly it is the ESC of the string terminator.
+    /// Takes a breaker after a string: mostly it is the ESC of the string terminator.
     #[inline(always)]
     pub fn leave_string<V: EventSink>(&mut self, b: u8, actor: &mut V) -> Result<()>
         requires { MayEmit V.EventSink (ground_move b (class_of b)).1 actor.old }
@@ -73,7 +73,7 @@ impl<K: TextRoom, A: Allocator> Machine<K, A> {
         }
     }
 
-    // A breaker in ground.
+    // Takes a breaker in ground.
     #[inline(always)]
     #[tactic(auto, using(crate::proofs::Emits::EventsFold::receives_moved))]
     fn break_in_ground<V: EventSink>(
@@ -104,7 +104,7 @@ impl<K: TextRoom, A: Allocator> Machine<K, A> {
         }
     }
 
-    /// A control after C2.
+    /// Takes a control after C2.
     #[tactic(auto, using(crate::proofs::Emits::EventsFold::receives_moved))]
     pub fn c1_in_utf8<V: EventSink>(&mut self, b: u8, class: Class, actor: &mut V) -> Result<()>
         requires { MayEmit V.EventSink (pair_move b class).1 actor.old }
@@ -132,7 +132,7 @@ impl<K: TextRoom, A: Allocator> Machine<K, A> {
         }
     }
 
-    /// A byte after a prefix of a character's sequence.
+    /// Takes a byte after a prefix of a character's sequence.
     pub fn in_pending<V: EventSink>(&mut self, b: u8, class: Class, actor: &mut V) -> Result<()>
         requires { MayEmit V.EventSink (pending_move (prefix_of self.old.pending) b class
             (outcome (prefix_of self.old.pending) b)).1 actor.old }
@@ -153,7 +153,7 @@ impl<K: TextRoom, A: Allocator> Machine<K, A> {
         }
     }
 
-    // A byte that breaks off a character's sequence.
+    // Takes a byte that breaks off a character's sequence.
     fn break_off<V: EventSink>(&mut self, b: u8, class: Class, actor: &mut V) -> Result<()>
         requires { MayEmit V.EventSink
             (emitting (Print 0xfffd ∷ []) (ground_move b class)).1 actor.old }
@@ -165,7 +165,7 @@ impl<K: TextRoom, A: Allocator> Machine<K, A> {
         self.in_ground(b, class, actor)
     }
 
-    // A byte that completes a sequence.
+    // Takes a byte that completes a sequence.
     #[tactic(auto, using(crate::proofs::Emits::EventsFold::receives_moved))]
     fn whole<V: EventSink>(&mut self, b: u8, class: Class, actor: &mut V) -> Result<()>
         requires ready { MayEmit V.EventSink (pending_move (prefix_of self.old.pending) b class
@@ -185,8 +185,8 @@ impl<K: TextRoom, A: Allocator> Machine<K, A> {
         }
     }
 
-    /// Characters, controls and short control sequences, as long as they come, and what follows
-    /// them: an operating system command, or a byte.
+    /// Takes characters, controls and short control sequences while they come, and then an
+    /// operating system command or one byte.
     #[inline(always)]
     pub fn parse_in_ground<V: EventSink>(&mut self, rest: &[u8], actor: &mut V) -> Result<usize>
         requires some { 0 < length rest.now }
@@ -208,7 +208,7 @@ impl<K: TextRoom, A: Allocator> Machine<K, A> {
         Ok(at)
     }
 
-    // Characters, a control, or a short control sequence; nothing where something else comes.
+    // Takes characters, a control, or a short control sequence; nothing if anything else comes.
     #[inline(always)]
     fn parse_fast<V: EventSink>(&mut self, rest: &[u8], actor: &mut V) -> Result<usize>
         requires some { 0 < length rest.now }
@@ -226,7 +226,7 @@ impl<K: TextRoom, A: Allocator> Machine<K, A> {
         }
     }
 
-    /// One character, or what else comes in ground.
+    /// Takes one character, short control sequence, operating system command or byte.
     #[inline(always)]
     pub fn first_in_ground<V: EventSink>(&mut self, rest: &[u8], actor: &mut V) -> Result<usize>
         requires some { 0 < length rest.now }
@@ -241,7 +241,7 @@ impl<K: TextRoom, A: Allocator> Machine<K, A> {
         }
     }
 
-    // A character, or a short control sequence; nothing where something else comes.
+    // Takes a character, or a short control sequence; takes nothing if anything else comes.
     #[inline(always)]
     fn first_fast<V: EventSink>(&mut self, rest: &[u8], actor: &mut V) -> Result<usize>
         requires some { 0 < length rest.now }
@@ -256,7 +256,7 @@ impl<K: TextRoom, A: Allocator> Machine<K, A> {
         }
     }
 
-    // An operating system command that ESC opens, or a byte.
+    // Takes an operating system command that ESC opens, or a byte.
     #[inline(always)]
     fn parse_osc_or_byte<V: EventSink>(&mut self, rest: &[u8], actor: &mut V) -> Result<usize>
         requires some { 0 < length rest.now }
@@ -270,7 +270,7 @@ impl<K: TextRoom, A: Allocator> Machine<K, A> {
         }
     }
 
-    /// One byte in ground.
+    /// Takes one byte in ground.
     #[inline(always)]
     pub fn parse_one_in_ground<V: EventSink>(&mut self, rest: &[u8], actor: &mut V) -> Result<usize>
         requires some { 0 < length rest.now }

@@ -1,4 +1,4 @@
-//! The machine in operating system commands.
+//! These methods parse operating system commands.
 #![tactic(auto)]
 
 ghost use Rattle.std.specs.Prelude.{◌≡◌, ◌⊎◌, ◌++◌, ◌<◌, List, ◌+◌, true, false, not, length, slice_index, OnOk, IsTrue};
@@ -27,7 +27,7 @@ use crate::utf8::sequence::{Outcome, Pending, lies_from};
 use std::alloc::Allocator;
 
 impl<K: TextRoom, A: Allocator> Machine<K, A> {
-    /// A byte after an OSC's units, with nothing pending.
+    /// Takes a byte after an OSC's units, with nothing pending.
     #[tactic(auto, using(crate::proofs::Emits::EventsFold::takes_moved))]
     pub fn in_osc<V: EventSink>(&mut self, b: u8, class: Class, actor: &mut V) -> Result<()>
         requires { V.is_ready actor.old ⊎ KeptOsc K.TextRoom self.old (λ u.
@@ -58,7 +58,7 @@ impl<K: TextRoom, A: Allocator> Machine<K, A> {
         }
     }
 
-    /// A byte after a prefix of a sequence, in an OSC.
+    /// Takes a byte after a prefix of a sequence, in an OSC.
     pub fn in_osc_pending<V: EventSink>(&mut self, b: u8, class: Class, actor: &mut V) -> Result<()>
         requires { V.is_ready actor.old ⊎ KeptOscPending K.TextRoom self.old (λ u.
             Awaits V.may V.takes actor.old (move self.old.limit u b class).1) }
@@ -81,7 +81,7 @@ impl<K: TextRoom, A: Allocator> Machine<K, A> {
         }
     }
 
-    // A byte that completes a sequence in an OSC.
+    // Takes a byte that completes a sequence in an OSC.
     fn whole_in_osc<V: EventSink>(&mut self, b: u8, class: Class, actor: &mut V) -> Result<()>
         requires { V.is_ready actor.old ⊎ KeptOscUnits K.TextRoom self.old (λ o ps.
             Awaits V.may V.takes actor.old (osc_pending_move self.old.limit o ps
@@ -104,7 +104,7 @@ impl<K: TextRoom, A: Allocator> Machine<K, A> {
         }
     }
 
-    // A breaker after an OSC.
+    // Takes the breaker after an OSC.
     fn leave_osc<V: EventSink>(&mut self, b: u8, class: Class, actor: &mut V) -> Result<()>
         requires { V.is_ready actor.old ⊎ KeptText K.TextRoom self.old.text (λ limit t.
             Awaits V.may V.takes actor.old (osc_events limit t ++ (ground_move b class).1)) }
@@ -117,7 +117,7 @@ impl<K: TextRoom, A: Allocator> Machine<K, A> {
         self.in_ground(b, class, actor)
     }
 
-    // A control after C2, in an OSC.
+    // Takes a control after C2, in an OSC.
     fn leave_osc_by_pair<V: EventSink>(&mut self, b: u8, class: Class, actor: &mut V) -> Result<()>
         requires { V.is_ready actor.old ⊎ KeptText K.TextRoom self.old.text (λ limit t.
             Awaits V.may V.takes actor.old (osc_events limit t ++ (pair_move b class).1)) }
@@ -130,7 +130,7 @@ impl<K: TextRoom, A: Allocator> Machine<K, A> {
         self.c1_in_utf8(b, class, actor)
     }
 
-    /// An operating system command, up to its end or what else its text does not keep as it is.
+    /// Takes an operating system command, up to its end or the first byte that its text changes.
     #[inline(always)]
     pub fn parse_osc<V: EventSink>(&mut self, rest: &[u8], actor: &mut V) -> Result<usize>
         requires opens { OpensOsc rest.now }
@@ -141,8 +141,8 @@ impl<K: TextRoom, A: Allocator> Machine<K, A> {
         Ok(2 + n)
     }
 
-    // What follows the opener, or else no byte that counts: a text that ends in these bytes is lent
-    // to the actor from there, any other is kept.
+    // Takes the text after the opener: a text that ends in these bytes is lent to the actor from
+    // there, any other is kept.
     #[inline(always)]
     fn parse_osc_text<V: EventSink>(&mut self, rest: &[u8], actor: &mut V) -> Result<usize>
         requires some { 0 < length rest.now }
@@ -163,7 +163,7 @@ impl<K: TextRoom, A: Allocator> Machine<K, A> {
         }
     }
 
-    // A text that is kept from its first byte on.
+    // Keeps a text from its first byte on.
     fn keep_body<V: EventSink>(&mut self, rest: &[u8], run: usize, actor: &mut V) -> Result<usize>
         requires run { HasRun IsTextRun rest.now run }
         requires ready { MayBeGiven V.EventSink NewOsc self.old.limit rest.now actor.old }
@@ -174,7 +174,7 @@ impl<K: TextRoom, A: Allocator> Machine<K, A> {
         self.parse_units(rest, run, actor)
     }
 
-    // A text, and the byte that ends it.
+    // Takes a text, and the byte that ends it.
     #[inline(always)]
     fn parse_lent_osc<V: EventSink>(
         &mut self,
@@ -190,7 +190,7 @@ impl<K: TextRoom, A: Allocator> Machine<K, A> {
         Ok(run + 1)
     }
 
-    // A text, and the control after C2 that ends it.
+    // Takes a text, and the control after C2 that ends it.
     #[inline(never)]
     fn parse_lent_osc_to_c1<V: EventSink>(
         &mut self,
@@ -206,7 +206,7 @@ impl<K: TextRoom, A: Allocator> Machine<K, A> {
         Ok(run + 2)
     }
 
-    // What ends a command whose text is lent.
+    // Takes the byte that ends a command whose text is lent.
     #[inline(always)]
     fn end_borrowed<V: EventSink>(&mut self, text: &[u8], b: u8, actor: &mut V) -> Result<()>
         requires { MayEmit V.EventSink
@@ -220,7 +220,7 @@ impl<K: TextRoom, A: Allocator> Machine<K, A> {
         self.leave_borrowed(b, actor)
     }
 
-    // A control after C2 that ends a command whose text is lent.
+    // Takes a control after C2 that ends a command whose text is lent.
     fn end_borrowed_by_pair<V: EventSink>(
         &mut self,
         text: &[u8],
@@ -238,7 +238,7 @@ impl<K: TextRoom, A: Allocator> Machine<K, A> {
         self.c1_in_utf8(b, classify(b), actor)
     }
 
-    // A bell, or a breaker.
+    // Takes a bell, or a breaker.
     #[inline(always)]
     fn leave_borrowed<V: EventSink>(&mut self, b: u8, actor: &mut V) -> Result<()>
         requires { MayEmit V.EventSink (osc_left b (class_of b)).1 actor.old }
@@ -255,7 +255,7 @@ impl<K: TextRoom, A: Allocator> Machine<K, A> {
         }
     }
 
-    /// The units that an operating system command keeps as they are, and the byte after them.
+    /// Takes the units that an operating system command keeps as they are, and the byte after them.
     #[inline(never)]
     pub fn parse_in_osc<V: EventSink>(&mut self, rest: &[u8], actor: &mut V) -> Result<usize>
         requires some { 0 < length rest.now }
@@ -273,7 +273,7 @@ impl<K: TextRoom, A: Allocator> Machine<K, A> {
         self.parse_units(rest, run, actor)
     }
 
-    // A run of units, which is kept, and the byte after them.
+    // Keeps a run of units, and takes the byte after them.
     #[inline(always)]
     fn parse_units<V: EventSink>(&mut self, rest: &[u8], run: usize, actor: &mut V) -> Result<usize>
         requires run { HasRun IsTextRun rest.now run }
@@ -289,7 +289,7 @@ impl<K: TextRoom, A: Allocator> Machine<K, A> {
     }
 }
 
-// Whether a byte of this class ends an operating system command.
+// Returns whether a byte of this class ends an operating system command.
 #[inline(always)]
 fn ends_osc(class: Class) -> bool
     ensures { result ≡ ends_osc class }
@@ -307,7 +307,7 @@ fn ends_osc(class: Class) -> bool
     }
 }
 
-// Whether C2 and a control after it come there.
+// Returns whether C2 and a control after it come there.
 #[inline(always)]
 fn is_pair_at(rest: &[u8], at: usize) -> bool
     requires { at < length rest.now }
@@ -320,7 +320,7 @@ fn is_pair_at(rest: &[u8], at: usize) -> bool
     rest[at] == 0xc2 && rest.len() - at > 1 && lies_from(0x80, 0x9f, rest[at + 1])
 }
 
-// A lent text, emitted where it is within the limit.
+// Emits a lent text if it is within the limit.
 #[inline(always)]
 fn emit_borrowed<A: Allocator, V: EventSink>(
     limit: Option<usize>,
@@ -341,7 +341,7 @@ fn emit_borrowed<A: Allocator, V: EventSink>(
     }
 }
 
-// The text of an operating system command, emitted where it is within the limit.
+// Emits the text of an operating system command if it is within the limit.
 fn emit_osc<K: TextRoom, A: Allocator, V: EventSink>(
     text: &K,
     alloc: &A,

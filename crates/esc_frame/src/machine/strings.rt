@@ -1,4 +1,4 @@
-//! The machine in application program commands, and in what is passed over: SOS and PM strings, and
+//! These methods parse application program commands and ignored strings: SOS and PM strings, and
 //! device control strings whose header has another form.
 #![tactic(auto)]
 
@@ -22,7 +22,7 @@ use crate::unfinished::store::TextRoom;
 use std::alloc::Allocator;
 
 impl<K: TextRoom, A: Allocator> Machine<K, A> {
-    /// A byte of an APC.
+    /// Takes a byte of an APC.
     pub fn in_apc<V: EventSink>(&mut self, b: u8, class: Class, actor: &mut V) -> Result<()>
         requires { V.is_ready actor.old ⊎ KeptApc K.TextRoom self.old (λ u.
             Awaits V.may V.takes actor.old (move self.old.limit u b class).1) }
@@ -43,7 +43,7 @@ impl<K: TextRoom, A: Allocator> Machine<K, A> {
         }
     }
 
-    // A breaker after an APC.
+    // Takes the breaker after an APC.
     fn leave_apc<V: EventSink>(&mut self, b: u8, class: Class, actor: &mut V) -> Result<()>
         requires { V.is_ready actor.old ⊎ KeptText K.TextRoom self.old.text (λ limit t.
             Awaits V.may V.takes actor.old (apc_events limit t ++ (ground_move b class).1)) }
@@ -56,7 +56,7 @@ impl<K: TextRoom, A: Allocator> Machine<K, A> {
         self.in_ground(b, class, actor)
     }
 
-    /// A byte that is passed over, but for a breaker.
+    /// Takes a byte of an ignored string: only a breaker acts.
     pub fn in_ignored<V: EventSink>(&mut self, b: u8, class: Class, actor: &mut V) -> Result<()>
         requires { MayEmit V.EventSink (cond (is_breaker class) (ground_move b class).1 [])
             actor.old }
@@ -81,7 +81,7 @@ impl<K: TextRoom, A: Allocator> Machine<K, A> {
         }
     }
 
-    /// The run of 20-7F in an application program command, and the byte after it: a text that
+    /// Takes the run of 20-7F in an application program command, and the byte after it: a text that
     /// begins and ends in these bytes is lent to the actor from there, any other is kept.
     #[inline(always)]
     pub fn parse_in_apc<V: EventSink>(&mut self, rest: &[u8], actor: &mut V) -> Result<usize>
@@ -107,7 +107,7 @@ impl<K: TextRoom, A: Allocator> Machine<K, A> {
         }
     }
 
-    // A run in an application program command, which is kept, and the byte after it.
+    // Keeps a run in an application program command, and takes the byte after it.
     fn keep_apc<V: EventSink>(&mut self, rest: &[u8], run: usize, actor: &mut V) -> Result<usize>
         requires run { HasRun (AreAll is_text_byte) rest.now run }
         requires ready { MayBeGiven V.EventSink (KeptApc K.TextRoom self.old) self.old.limit
@@ -121,7 +121,7 @@ impl<K: TextRoom, A: Allocator> Machine<K, A> {
         self.step_after(rest, run, actor)
     }
 
-    // A text, and the breaker that ends it.
+    // Takes a text, and the breaker that ends it.
     #[inline(always)]
     fn parse_lent_apc<V: EventSink>(
         &mut self,
@@ -138,7 +138,7 @@ impl<K: TextRoom, A: Allocator> Machine<K, A> {
         Ok(run + 1)
     }
 
-    // A breaker after an application program command whose text is lent.
+    // Takes the breaker after an application program command whose text is lent.
     fn end_borrowed_apc<V: EventSink>(&mut self, text: &[u8], b: u8, actor: &mut V) -> Result<()>
         requires { MayEmit V.EventSink
             (apc_events self.old.limit text.now ++ (ground_move b (class_of b)).1) actor.old }
@@ -152,7 +152,7 @@ impl<K: TextRoom, A: Allocator> Machine<K, A> {
         self.leave_string(b, actor)
     }
 
-    /// The run of 20-7F in what is passed over.
+    /// Takes the run of 20-7F in an ignored string.
     #[inline(always)]
     pub fn parse_in_ignored<V: EventSink>(&mut self, rest: &[u8], actor: &mut V) -> Result<usize>
         requires some { 0 < length rest.now }
@@ -170,7 +170,7 @@ impl<K: TextRoom, A: Allocator> Machine<K, A> {
     }
 }
 
-// Whether a byte of this class breaks off a string.
+// Returns whether a byte of this class breaks off a string.
 #[inline(always)]
 fn is_breaker(class: Class) -> bool
     ensures { result ≡ is_breaker class }
@@ -189,7 +189,7 @@ fn is_breaker(class: Class) -> bool
     }
 }
 
-// A lent text, emitted where it is within the limit.
+// Emits a lent text if it is within the limit.
 fn emit_borrowed_apc<V: EventSink>(limit: Option<usize>, text: &[u8], actor: &mut V) -> Result<()>
     requires { MayEmit V.EventSink (apc_events limit text.now) actor.old }
     ensures emitted { Emits V.EventSink ⊥ result (apc_events limit text.now) actor }
@@ -202,7 +202,7 @@ fn emit_borrowed_apc<V: EventSink>(limit: Option<usize>, text: &[u8], actor: &mu
     }
 }
 
-// The text of an APC, emitted where it is within the limit.
+// Emits the text of an APC if it is within the limit.
 #[tactic(auto, using(crate::proofs::Emits::EventsFold::receives_takes))]
 fn emit_apc<K: TextRoom, V: EventSink>(text: &K, actor: &mut V) -> Result<()>
     requires { V.is_ready actor.old ⊎ KeptText K.TextRoom text.now (λ limit t.

@@ -1,4 +1,4 @@
-//! Characters and controls in ground.
+//! This module takes characters and controls in ground.
 #![tactic(auto)]
 
 ghost use Rattle.std.specs.Prelude.{◌≢◌, ◌<◌, ◌≤◌, ℕ, Option, length, take, slice_index, IfSome, IsSome};
@@ -15,8 +15,8 @@ use crate::runs::scans::{ascii_run, free_run};
 use crate::taker::EventSink;
 use crate::utf8::sequence::{ahead, of_four, of_three, of_two};
 
-/// The character that comes first and is whole, and its length; `None` where there is none, or
-/// where that is not seen at once: fewer than three bytes follow a first byte from 80 on.
+/// Returns the whole character that comes first, and its length; `None` if there is none, or if
+/// that is not seen at once: fewer than three bytes follow a first byte from 80 on.
 #[inline(always)]
 pub fn first_char(rest: &[u8]) -> Option<(char, usize)>
     ensures count { IfSome result (λ x. (0 < x.1) × (x.1 ≤ length rest.now)) }
@@ -37,7 +37,7 @@ pub fn first_char(rest: &[u8]) -> Option<(char, usize)>
     }
 }
 
-/// The control that comes first: 00 to 1F, but not ESC.
+/// Returns the control that comes first: 00 to 1F, but not ESC.
 #[inline(always)]
 pub fn first_control(rest: &[u8]) -> Option<u8>
     ensures count { IfSome result (λ b. 0 < length rest.now) }
@@ -55,7 +55,7 @@ pub fn first_control(rest: &[u8]) -> Option<u8>
     }
 }
 
-/// The control that comes first.
+/// Takes the control that comes first.
 #[inline(always)]
 pub fn execute_one<V: EventSink>(rest: &[u8], actor: &mut V) -> Result<usize>
     requires control { StartsWithControl rest.now }
@@ -78,7 +78,7 @@ fn first_wide(rest: &[u8]) -> Option<(char, usize)>
     if n == 0 { None } else { Some((c, n)) }
 }
 
-/// The character that comes first, where it is whole; else nothing.
+/// Prints the character that comes first, if it is whole; else takes nothing.
 #[inline(always)]
 pub fn print_first<V: EventSink>(rest: &[u8], actor: &mut V) -> Result<usize>
     requires { MayEmitAll V.EventSink Ground rest.now actor.old }
@@ -94,7 +94,7 @@ pub fn print_first<V: EventSink>(rest: &[u8], actor: &mut V) -> Result<usize>
     }
 }
 
-/// A run of text, or sequences, that come first.
+/// Prints a run of text, or sequences, that come first.
 #[inline(always)]
 pub fn print_one<V: EventSink>(rest: &[u8], actor: &mut V) -> Result<usize>
     requires some { 0 < length rest.now }
@@ -110,9 +110,9 @@ pub fn print_one<V: EventSink>(rest: &[u8], actor: &mut V) -> Result<usize>
     }
 }
 
-// A long run of text as it is; or the sequences that come first, where it is short or not
-// well-formed. A stream that is not UTF-8 mostly shows that at once. It is out of the way of the
-// code for plain text.
+// Prints a long run of text as it is; or the sequences that come first, if it is short or not
+// well-formed. A stream that is not UTF-8 mostly shows that at once. The function is apart from the
+// fast code for plain text.
 #[inline(never)]
 fn print_long<V: EventSink>(rest: &[u8], actor: &mut V) -> Result<usize>
     requires { MayEmitAll V.EventSink Ground rest.now actor.old }
@@ -134,21 +134,21 @@ fn print_long<V: EventSink>(rest: &[u8], actor: &mut V) -> Result<usize>
     }
 }
 
-// Characters of one kind, which mostly come one after another.
+// Glyphs are characters of one kind, which mostly come one after another.
 trait Glyphs<V: EventSink> {
-    // How many bytes a look at the next of them needs.
+    // is the number of bytes that a look at the next of them needs
     const LEAST: usize;
 
     ghost LEAST: { ℕ };
 
-    // Prints the next ones; nothing where others come.
+    // Prints the next ones; takes nothing if others come.
     fn print_next(rest: &[u8], actor: &mut V) -> Result<usize>
         requires some { LEAST ≤ length rest.now }
         requires ready { MayEmitAll V.EventSink Ground rest.now actor.old }
         ensures { StaysInGround V.EventSink result rest.now actor };
 }
 
-// The characters of a kind that come first.
+// Prints the characters of a kind that come first.
 #[inline(always)]
 fn print_glyphs<V: EventSink, G: Glyphs<V>>(rest: &[u8], actor: &mut V) -> Result<usize>
     requires { MayEmitAll V.EventSink Ground rest.now actor.old }
@@ -165,7 +165,7 @@ fn print_glyphs<V: EventSink, G: Glyphs<V>>(rest: &[u8], actor: &mut V) -> Resul
     Ok(at)
 }
 
-// Sequences, and short runs of text between them; a longer run is left.
+// Takes sequences, and short runs of text between them; leaves a longer run.
 struct Mixed;
 
 impl<V: EventSink> Glyphs<V> for Mixed {
@@ -192,7 +192,7 @@ impl<V: EventSink> Glyphs<V> for Mixed {
     }
 }
 
-// Bytes of text.
+// Takes bytes of text.
 struct Ascii;
 
 impl<V: EventSink> Glyphs<V> for Ascii {
@@ -206,7 +206,7 @@ impl<V: EventSink> Glyphs<V> for Ascii {
     }
 }
 
-// Sequences of two bytes, and single bytes of text between them.
+// Takes sequences of two bytes, and single bytes of text between them.
 struct TwoBytes;
 
 impl<V: EventSink> Glyphs<V> for TwoBytes {
@@ -224,7 +224,7 @@ impl<V: EventSink> Glyphs<V> for TwoBytes {
     }
 }
 
-// Sequences of three bytes.
+// Takes sequences of three bytes.
 struct ThreeBytes;
 
 impl<V: EventSink> Glyphs<V> for ThreeBytes {
@@ -239,7 +239,7 @@ impl<V: EventSink> Glyphs<V> for ThreeBytes {
     }
 }
 
-// A byte of text that a sequence follows soon.
+// Prints a byte of text that a sequence follows soon.
 #[inline(always)]
 fn print_ascii_before_multibyte<V: EventSink>(rest: &[u8], actor: &mut V) -> Result<usize>
     requires some { 4 ≤ length rest.now }
@@ -253,7 +253,7 @@ fn print_ascii_before_multibyte<V: EventSink>(rest: &[u8], actor: &mut V) -> Res
     }
 }
 
-// The character that is whole ahead, if one is.
+// Prints the whole character ahead, if there is one.
 #[inline(always)]
 fn print_ahead<V: EventSink>(rest: &[u8], n: usize, c: char, actor: &mut V) -> Result<usize>
     requires ahead { IsAhead rest.now n c }
@@ -269,7 +269,7 @@ fn print_ahead<V: EventSink>(rest: &[u8], n: usize, c: char, actor: &mut V) -> R
     }
 }
 
-// A byte of text.
+// Prints a byte of text.
 #[inline(always)]
 fn print_ascii_byte<V: EventSink>(rest: &[u8], actor: &mut V) -> Result<usize>
     requires some { 1 ≤ length rest.now }

@@ -1,4 +1,4 @@
-//! How far a run goes.
+//! This module finds the ends of runs.
 #![tactic(auto)]
 
 ghost use Rattle.std.specs.Prelude.{◌≡◌, ◌+◌, ◌<◌, ◌≤◌, true, length, take, drop, slice_index, IsTrue};
@@ -21,7 +21,7 @@ fn lowest(mask: u64, n: usize) -> usize
     }
 }
 
-// How many of the 32 bytes from `at`, from the first, are 20 to `last`, which is 7E or 7F.
+// Returns how many of the 32 bytes from `at`, from the first, are 20 to `last`, which is 7E or 7F.
 #[inline(always)]
 fn run_in_wide_lanes(bytes: &[u8], at: usize, last: u8) -> usize
     requires room { at + 32 ≤ length bytes.now }
@@ -33,7 +33,7 @@ fn run_in_wide_lanes(bytes: &[u8], at: usize, last: u8) -> usize
     lowest(stops.to_bitmask(), 32)
 }
 
-// The same of 16 bytes.
+// Returns the same of 16 bytes.
 #[inline(always)]
 fn run_in_lanes(bytes: &[u8], at: usize, last: u8) -> usize
     requires room { at + 16 ≤ length bytes.now }
@@ -45,8 +45,8 @@ fn run_in_lanes(bytes: &[u8], at: usize, last: u8) -> usize
     lowest(stops.to_bitmask(), 16)
 }
 
-// The length of the longest prefix of bytes 20 to `last`, which is 7E or 7F. Most runs end within
-// the first 16 bytes.
+// Returns the length of the longest prefix of bytes 20 to `last`, which is 7E or 7F. Most runs end
+// within the first 16 bytes.
 #[inline(always)]
 fn run_to(bytes: &[u8], last: u8) -> usize
     requires last { is_from 0x7e 0x7f last ≡ true }
@@ -63,7 +63,7 @@ fn run_to(bytes: &[u8], last: u8) -> usize
     run_from(bytes, 16, last)
 }
 
-// The same, out of the way of the code for long runs.
+// Returns the same, apart from the fast code for long runs.
 #[inline(never)]
 fn short_run_to(bytes: &[u8], last: u8) -> usize
     requires last { is_from 0x7e 0x7f last ≡ true }
@@ -73,7 +73,7 @@ fn short_run_to(bytes: &[u8], last: u8) -> usize
     run_from(bytes, 0, last)
 }
 
-// The same, where the bytes before `from` are a part of it.
+// Returns the same, if the bytes before `from` are a part of the run.
 #[tactic(auto, using(crate::proofs::ByteRuns::PrefixesPass::runs))]
 #[inline(always)]
 fn run_from(bytes: &[u8], from: usize, last: u8) -> usize
@@ -96,8 +96,8 @@ fn run_from(bytes: &[u8], from: usize, last: u8) -> usize
     end
 }
 
-/// The length of the longest prefix of bytes 20 to 7F: the printable characters of ASCII, the space
-/// and DEL. It takes no memory.
+/// Returns the length of the longest prefix of bytes 20 to 7F: the printable characters of ASCII,
+/// the space and DEL. It takes no memory.
 #[inline(always)]
 pub fn ascii_run(bytes: &[u8]) -> usize
     ensures run { result ≡ prefix_len is_text_byte bytes.now }
@@ -106,7 +106,7 @@ pub fn ascii_run(bytes: &[u8]) -> usize
     run_to(bytes, 0x7f)
 }
 
-/// The length of the longest prefix of bytes 20 to 7E.
+/// Returns the length of the longest prefix of bytes 20 to 7E.
 #[inline(always)]
 pub fn data_run(bytes: &[u8]) -> usize
     ensures run { result ≡ prefix_len is_data_byte bytes.now }
@@ -115,7 +115,7 @@ pub fn data_run(bytes: &[u8]) -> usize
     run_to(bytes, 0x7e)
 }
 
-// How many of the 16 bytes from `at`, from the first, are no `;`.
+// Returns how many of the 16 bytes from `at`, from the first, are no `;`.
 #[inline(always)]
 fn unmarked_in_lanes(text: &[u8], at: usize) -> usize
     requires { at + 16 ≤ length text.now }
@@ -125,7 +125,7 @@ fn unmarked_in_lanes(text: &[u8], at: usize) -> usize
     lowest(marks.to_bitmask(), 16)
 }
 
-/// Where the first `;` from `from` on is, or the end of the text.
+/// Returns the place of the first `;` from `from` on, or the end of the text.
 #[tactic(auto, using(crate::proofs::ByteRuns::PrefixesPass::runs))]
 #[inline(always)]
 pub fn mark_from(text: &[u8], from: usize) -> usize
@@ -147,8 +147,8 @@ pub fn mark_from(text: &[u8], from: usize) -> usize
     at
 }
 
-/// The length of the longest prefix of whole units that an OSC's text keeps as they are: bytes 20
-/// to 7F, and well-formed sequences of UTF-8 that are no controls.
+/// Returns the length of the longest prefix of whole units that an OSC's text keeps as they are:
+/// bytes 20 to 7F, and well-formed sequences of UTF-8 that are no controls.
 pub fn units_run(bytes: &[u8]) -> usize
     ensures run { IsTextRun (take result bytes.now) }
     ensures few { result ≤ length bytes.now }
@@ -165,7 +165,7 @@ pub fn units_run(bytes: &[u8]) -> usize
     end
 }
 
-// A run of bytes 20 to 7F, or a sequence.
+// Returns the length of a run of bytes 20 to 7F, or of a sequence.
 #[inline(always)]
 fn units_ahead(bytes: &[u8]) -> usize
     ensures run { IsTextRun (take result bytes.now) }
@@ -184,7 +184,7 @@ fn units_ahead(bytes: &[u8]) -> usize
     }
 }
 
-// How many of the 32 bytes from `at`, from the first, are neither a control of C0 nor C2.
+// Returns how many of the 32 bytes from `at`, from the first, are neither a control of C0 nor C2.
 #[inline(always)]
 fn free_in_wide_lanes(bytes: &[u8], at: usize) -> usize
     requires { at + 32 ≤ length bytes.now }
@@ -196,7 +196,7 @@ fn free_in_wide_lanes(bytes: &[u8], at: usize) -> usize
     lowest(held.to_bitmask(), 32)
 }
 
-// No control begins here.
+// Returns whether no control begins here.
 #[inline(always)]
 fn is_free_at(bytes: &[u8], at: usize) -> bool
     requires { at < length bytes.now }
@@ -211,12 +211,12 @@ fn is_free_at(bytes: &[u8], at: usize) -> bool
     }
 }
 
-// How far a run of UTF-8 is looked for, so that one that is not well-formed costs no more than that
-// each time.
+// The search for a run of UTF-8 ends after this many bytes, so that one that is not well-formed
+// costs no more than that each time.
 const FAR: usize = 128;
 
-/// The length of a prefix without a control of C0, and without C2 where 80 to 9F follows. It is not
-/// much longer than 128.
+/// Returns the length of a prefix without a control of C0, and without C2 before 80 to 9F. It is
+/// not much longer than 128.
 #[inline(always)]
 pub fn free_run(bytes: &[u8]) -> usize
     ensures run { IsFreeTo bytes.now result }
@@ -239,7 +239,7 @@ pub fn free_run(bytes: &[u8]) -> usize
     before_character(bytes, end)
 }
 
-// The place of the character that goes past `end`, or `end` itself.
+// Returns the place of the character that goes past `end`, or `end` itself.
 #[inline(always)]
 fn before_character(bytes: &[u8], end: usize) -> usize
     requires { end ≤ length bytes.now }

@@ -1,4 +1,4 @@
-//! The body of a control sequence, byte by byte.
+//! This module reads the body of a control sequence, byte by byte.
 #![tactic(auto)]
 
 ghost use Rattle.std.specs.Prelude.{◌≡◌, ◌<◌, ◌≤◌, ◌++◌, true, length, take, ℕ, List, [], ◌∷◌};
@@ -10,23 +10,23 @@ ghost use Rattle.esc_frame.specs.Scans.{StartsWithDigit};
 use crate::unfinished::csi_params::Params;
 use crate::utf8::sequence::lies_from;
 
-/// How far a body, or a DCS's header, has come in its form: optionally a private prefix 3C-3F, then
+/// A form says how far a body, or a DCS's header, has come: optionally a private prefix 3C-3F, then
 /// parameter bytes, which are 30-3B in a body and 30-39 and 3B in a header, then intermediates
 /// 20-2F.
 #[derive(Clone, Copy)]
 pub enum Form {
-    /// Nothing yet.
+    /// Nothing has come.
     Empty,
-    /// A private prefix or parameter bytes, and no intermediate.
+    /// A private prefix or parameter bytes have come, and no intermediate.
     Parameters,
-    /// An intermediate.
+    /// An intermediate has come.
     Intermediates,
-    /// A byte out of order.
+    /// A byte has come out of order.
     Malformed,
 }
 
 impl Form {
-    /// The form of a CSI's body with a byte more.
+    /// Returns the form of a CSI's body with one more byte.
     #[inline(always)]
     pub fn next(self, byte: u8) -> Form
         ensures { result ≡ next_form self byte }
@@ -75,7 +75,7 @@ impl Form {
         }
     }
 
-    /// Whether no byte was out of order.
+    /// Returns whether no byte was out of order.
     pub fn is_formed(self) -> bool
         ensures { result ≡ is_formed self }
     {
@@ -86,7 +86,7 @@ impl Form {
     }
 }
 
-/// What is known of a body so far.
+/// The value describes a body so far.
 #[derive(Drop)]
 pub struct CsiBody {
     pub csi_params: Params,
@@ -94,7 +94,7 @@ pub struct CsiBody {
 }
 
 impl CsiBody {
-    /// An empty body.
+    /// Returns an empty body.
     #[inline(always)]
     pub fn new() -> Self
         ensures { KeepsBody result [] }
@@ -135,7 +135,7 @@ impl CsiBody {
         self.csi_params.push_digits(bytes)
     }
 
-    /// Whether the body has its form.
+    /// Returns whether the body has its form.
     pub fn is_formed(&self) -> bool
         ensures { (x : List ℕ) → KeepsBody self.now x → result ≡ is_csi_body x }
     {

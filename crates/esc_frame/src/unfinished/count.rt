@@ -1,10 +1,10 @@
-//! A count of bytes, as far as a limit allows.
+//! This module counts bytes, as far as a limit allows.
 #![tactic(auto)]
 
 ghost use Rattle.std.specs.Prelude.{◌≡◌, ◌+◌, ℕ, Option, min, not, true, false};
 ghost use Rattle.esc_frame.specs.Limits.{is_within, kept_within, most, Counts};
 
-/// Whether `more` may be added to a count that is within the limit.
+/// Returns whether `more` may be added to a count that is within the limit.
 #[inline(always)]
 pub fn fits(limit: Option<usize>, count: usize, more: usize) -> bool
     ensures { (n : ℕ) → is_within limit n ≡ true → count ≡ min n most
@@ -16,18 +16,18 @@ pub fn fits(limit: Option<usize>, count: usize, more: usize) -> bool
     }
 }
 
-/// How many bytes were counted, and whether they passed the limit. The limit is given with each
-/// addition: `None` is none. Without a limit a count past [`usize::MAX`] stays there.
+/// The count says how many bytes came, and whether they passed the limit. Each addition is given
+/// the limit: `None` means no limit. Without a limit a count past [`usize::MAX`] stays there.
 #[derive(Clone, Copy, PartialEq, Eq)]
 pub struct Count {
-    /// The bytes counted; 0 once they passed the limit.
+    /// The number of bytes; 0 once they passed the limit.
     pub bytes: usize,
-    /// Whether they passed the limit.
+    /// Says whether they passed the limit.
     pub is_over: bool,
 }
 
 impl Count {
-    /// Nothing counted.
+    /// Returns a count of no bytes.
     pub fn new() -> Self
         ensures counts { (limit : Option ℕ) → Counts limit result 0 }
         ensures within { result.is_over ≡ false }
@@ -67,7 +67,7 @@ impl Count {
         }
     }
 
-    /// The count, and 0 once it passed the limit.
+    /// Returns the count, and 0 once it passed the limit.
     pub fn value(self) -> usize
         ensures { (limit : Option ℕ) (n : ℕ) → Counts limit self n
             → result ≡ min (kept_within limit n) most }

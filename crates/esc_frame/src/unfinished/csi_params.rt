@@ -1,4 +1,4 @@
-//! The parameters of a control sequence, byte by byte.
+//! This module reads the parameters of a control sequence, byte by byte.
 #![tactic(auto)]
 
 ghost use Rattle.std.specs.Prelude.{◌≡◌, ◌++◌, ◌<◌, ◌≤◌, ◌-◌, ◌+◌, ◌*◌, ℕ, List, [], ◌∷◌, take, length, Option, true, false};
@@ -13,26 +13,26 @@ const MAX_ENTRIES: usize = 256;
 
 const MAX_NUMBER: u64 = 0x7fff_ffff_ffff_ffff;
 
-// Ten times a number below this, and a byte, is below the greatest.
+// Ten times a number below this, and a digit more, is below the greatest.
 const FAR_BELOW: u64 = 0x0ccc_cccc_cccc_cc00;
 
-/// The first 256 parameters of a body, which take no memory. A run of digits at its end is kept as
-/// a number, since the next byte may be one more of them.
+/// The value keeps the first 256 parameters of a body, which take no memory. It keeps a run of
+/// digits at the end as a number, since the next byte may be one more of them.
 #[derive(Drop)]
 pub struct Params {
     pub items: ParamList,
-    // how many are kept
+    // is the most that are kept
     pub limit: usize,
-    // whether more came
+    // says whether more came
     pub is_truncated: bool,
-    // whether the bytes end in a run of digits, and its number, held at the greatest `i64`
+    // say whether the bytes end in a run of digits, and its number, held at the greatest `i64`
     pub is_open: bool,
     pub number: u64,
     ghost small: { number ≤ 0x7fff_ffff_ffff_ffff },
     ghost few: { limit ≤ 256 },
 }
 
-/// Ten times n and d, held at the greatest `i64`.
+/// Returns ten times n and d, held at the greatest `i64`.
 #[inline(always)]
 pub fn next_number(n: u64, d: u8) -> u64
     requires { n ≤ 0x7fff_ffff_ffff_ffff }
@@ -51,7 +51,7 @@ pub fn next_number(n: u64, d: u8) -> u64
 impl Params {
     ghost use Rattle.esc_frame.specs.Machine.Keeps.{KeepsEntries, IsNumber, number_at, AreFirst, params_with, next_number_of};
 
-    /// No parameters.
+    /// Returns an empty list of parameters.
     #[inline(always)]
     pub fn new() -> Self
         ensures { KeepsEntries result [] }
@@ -109,7 +109,7 @@ impl Params {
         end
     }
 
-    // The number of the run of digits at the end, or 0.
+    // Returns the number of the run of digits at the end, or 0.
     #[inline(always)]
     fn number_so_far(&self) -> u64
         ensures value { (o : Option ℕ) → IsNumber self.now o → result

@@ -1,4 +1,4 @@
-//! The body of a short control sequence, read straight into a list of parameters.
+//! This module reads the body of a short control sequence straight into a list of parameters.
 #![tactic(auto)]
 
 ghost use Rattle.std.specs.Prelude.{◌≡◌, ◌<◌, ◌≤◌, ◌+◌, ◌++◌, true, false, ℕ, List, ◌∷◌, [], length, take, pos};
@@ -10,16 +10,16 @@ use crate::unfinished::csi_params::next_number;
 use crate::utf8::sequence::lies_from;
 use esc_values::csi_param::CsiParam;
 
-/// A parameter, in the form in which a list keeps it.
+/// This is a parameter, in the form in which a list keeps it.
 pub trait Param: Copy {
-    // the parameter that it is
+    // is the parameter that a value stands for
     ghost param: { Self → Parameter };
 
-    /// A byte that is a parameter by itself.
+    /// Returns a byte that is a parameter by itself.
     fn of_byte(byte: u8) -> Self
         ensures { param result ≡ CsiParam.P byte };
 
-    /// A number.
+    /// Returns a number.
     fn of_number(number: u64) -> Self
         requires { number ≤ 0x7fff_ffff_ffff_ffff }
         ensures { param result ≡ CsiParam.Integer (pos number) };
@@ -39,7 +39,7 @@ impl Param for CsiParam {
     }
 }
 
-// How far a field goes, how many parameters there are then, whether a separator ended it, and else
+// A field has its length, the number of parameters after it, whether a separator ended it, and else
 // the byte after it, or 0.
 #[derive(Clone, Copy)]
 struct Field {
@@ -49,8 +49,8 @@ struct Field {
     after: u8,
 }
 
-/// How far a body goes, how many parameters it has, and the byte after it, or 0 where there is none
-/// or there are too many parameters.
+/// A body has its length, the number of its parameters, and the byte after it, or 0 if there is
+/// none or there are too many parameters.
 #[derive(Clone, Copy)]
 pub struct Body {
     pub length: usize,
@@ -68,7 +68,7 @@ pub fn put<E: Param>(csi_params: &mut [E], count: usize, entry: E)
     csi_params[count] = entry;
 }
 
-// A byte that is a parameter by itself.
+// Writes a byte that is a parameter by itself.
 #[inline(always)]
 fn put_byte<E: Param>(csi_params: &mut [E], count: usize, byte: u8)
     requires { count < length csi_params.old }
@@ -78,7 +78,7 @@ fn put_byte<E: Param>(csi_params: &mut [E], count: usize, byte: u8)
     put(csi_params, count, E::of_byte(byte))
 }
 
-// A number.
+// Writes a number.
 #[inline(always)]
 fn put_integer<E: Param>(csi_params: &mut [E], count: usize, number: u64)
     requires room { count < length csi_params.old }
@@ -89,9 +89,9 @@ fn put_integer<E: Param>(csi_params: &mut [E], count: usize, number: u64)
     put(csi_params, count, E::of_number(number))
 }
 
-// The number that the digits write that come first, at least one, how many they are, and the byte
-// after them, or 0. Most numbers have at most three digits; of others only the first is read, but
-// where `any` says so.
+// Returns the number that the digits at the start write, at least one, how many they are, and the
+// byte after them, or 0. Most numbers have at most three digits; of others the function reads only
+// the first digit, unless `any` says otherwise.
 #[inline(always)]
 fn read_number(rest: &[u8], any: bool) -> (u64, usize, u8)
     requires { StartsWithDigit rest.now }
@@ -123,7 +123,7 @@ fn read_number(rest: &[u8], any: bool) -> (u64, usize, u8)
     }
 }
 
-// The same for any number of digits, out of the way of the code for few.
+// Reads any number of digits, apart from the fast code for few.
 #[inline(never)]
 fn read_any_number(rest: &[u8]) -> (u64, usize, u8)
     requires { StartsWithDigit rest.now }
@@ -142,7 +142,8 @@ fn read_any_number(rest: &[u8]) -> (u64, usize, u8)
     }
 }
 
-// The digits that come first: how many they are, and the byte after them, or 0.
+// Writes the number of the digits that come first, and returns how many they are, and the byte
+// after them, or 0.
 #[inline(always)]
 fn put_number<E: Param>(csi_params: &mut [E], count: usize, rest: &[u8], any: bool) -> (usize, u8)
     requires room { count < length csi_params.old }
@@ -154,7 +155,8 @@ fn put_number<E: Param>(csi_params: &mut [E], count: usize, rest: &[u8], any: bo
     (length, after)
 }
 
-// A separator, 3B or, where `any` says so, 3A. False where this is none, and then nothing is taken.
+// Writes a separator, 3B or, if `any` says so, 3A. Returns false if `b` is none, and then writes
+// nothing.
 #[inline(always)]
 fn put_mark<E: Param>(csi_params: &mut [E], count: usize, b: u8, any: bool) -> bool
     requires room { count < length csi_params.old }
@@ -177,7 +179,7 @@ fn put_mark<E: Param>(csi_params: &mut [E], count: usize, b: u8, any: bool) -> b
     }
 }
 
-// A private prefix, 3C to 3F, if one comes first.
+// Writes a private prefix, 3C to 3F, if one comes first.
 #[inline(always)]
 fn put_private_prefix<E: Param>(csi_params: &mut [E], rest: &[u8]) -> usize
     requires { 0 < length csi_params.old }
@@ -195,7 +197,7 @@ fn put_private_prefix<E: Param>(csi_params: &mut [E], rest: &[u8]) -> usize
     }
 }
 
-// The digits that come first, if any, and a separator after them.
+// Writes the digits that come first, if any, and a separator after them.
 #[inline(always)]
 fn put_field<E: Param>(csi_params: &mut [E], count: usize, rest: &[u8], any: bool) -> Field
     requires room { count + 1 < length csi_params.old }
@@ -236,7 +238,7 @@ fn put_field<E: Param>(csi_params: &mut [E], count: usize, rest: &[u8], any: boo
     }
 }
 
-// How many bytes are to be left where a field is read.
+// Returns how many bytes have to be left to read a field.
 #[inline(always)]
 fn least(any: bool) -> usize
     ensures { 0 < result }
@@ -245,8 +247,8 @@ fn least(any: bool) -> usize
 }
 
 /// Reads the body that comes first, as far as it has a private prefix, numbers and separators and
-/// there is room for its parameters. What is seldom, which is the separator 3A, numbers of more
-/// than three digits and the last bytes of all, it reads only where `any` says so.
+/// there is room for its parameters. It reads rare parts only if `any` says so: the separator 3A,
+/// numbers of more than three digits and the last bytes of all.
 #[inline(always)]
 pub fn read_body<E: Param>(csi_params: &mut [E], rest: &[u8], any: bool) -> Body
     requires { (0 < length csi_params.old) × (length csi_params.old ≤ 256) }

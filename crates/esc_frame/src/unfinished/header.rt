@@ -1,5 +1,5 @@
-//! The header of a device control string, byte by byte. Its parameter bytes are kept beside it, and
-//! read at its final byte.
+//! This module reads the header of a device control string, byte by byte. Its parameter bytes are
+//! kept beside it, and read at its final byte.
 #![tactic(auto)]
 
 ghost use Rattle.std.specs.Prelude.{◌≡◌, ◌++◌, ℕ, List, [], ◌∷◌, map, pos, IfOk, OnErr};
@@ -15,16 +15,16 @@ use crate::unfinished::intermediates::Intermediates;
 use crate::utf8::sequence::lies_from;
 use std::alloc::{AllocError, Allocator};
 
-/// What is known of a header so far, beside its parameter bytes.
+/// The value describes a header so far, without its parameter bytes.
 #[derive(Drop)]
 pub struct DcsHeader {
     pub form: Form,
-    // its private prefix and its intermediates, and what else is no parameter byte
+    // has its private prefix, its intermediates, and any other byte that is no parameter byte
     pub intermediates: Intermediates,
 }
 
 impl DcsHeader {
-    /// An empty header.
+    /// Returns an empty header.
     pub fn new() -> Self
         ensures { KeepsDcs result [] }
     {
@@ -44,8 +44,8 @@ impl DcsHeader {
         }
     }
 
-    /// Whether the header has its form: optionally a private prefix 3C-3F, then 30-39 and 3B, then
-    /// intermediates 20-2F.
+    /// Returns whether the header has its form: optionally a private prefix 3C-3F, then 30-39 and
+    /// 3B, then intermediates 20-2F.
     pub fn is_formed(&self) -> bool
         ensures { (x : List ℕ) → KeepsDcs self.now x → result ≡ is_dcs_header x }
     {
@@ -53,7 +53,7 @@ impl DcsHeader {
     }
 }
 
-// The form of a header with a byte more: that of a CSI's body, but without 3A.
+// Returns the form of a header with one more byte: that of a CSI's body, but without 3A.
 fn next_form(form: Form, byte: u8) -> Form
     ensures { result ≡ next_form_by is_dcs_parameter form byte }
 {
@@ -64,14 +64,14 @@ fn next_form(form: Form, byte: u8) -> Form
     }
 }
 
-/// Whether the byte is a parameter byte of a header: 30-39, 3B.
+/// Returns whether the byte is a parameter byte of a header: 30-39, 3B.
 pub fn is_parameter(byte: u8) -> bool
     ensures { result ≡ is_dcs_parameter byte }
 {
     lies_from(0x30, 0x39, byte) || byte == b';'
 }
 
-// The number of a unit, held at the greatest `i64`.
+// Returns the number of a part, held at the greatest `i64`.
 fn number_of(osc_unit: &[u8]) -> i64
     ensures { result ≡ pos (capped_at_i64 (value_after 0 osc_unit.now)) }
 {
@@ -82,7 +82,8 @@ fn number_of(osc_unit: &[u8]) -> i64
     number as i64
 }
 
-/// The parameters that parameter bytes write: the numbers of the units between `;`.
+/// Returns the parameters that parameter bytes write: the numbers of the parts between `;`. The
+/// error is that memory was refused.
 pub fn params_of<A: Allocator + Copy>(alloc: A, bytes: &[u8]) -> Result<Vec<i64, A>, AllocError>
     ensures ok { IfOk result (λ v. v.items ≡ map (λ p. pos (capped_at_i64 (value_after 0 p)))
         (parts_of bytes.now)) }

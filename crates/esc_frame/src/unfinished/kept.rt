@@ -1,4 +1,4 @@
-//! What is kept of a string, as far as a limit allows.
+//! This module keeps a string in memory, as far as a limit allows.
 #![tactic(auto)]
 
 ghost use Rattle.std.specs.Prelude.{ℕ, [], Option};
@@ -9,16 +9,17 @@ use crate::unfinished::count::fits;
 use crate::unfinished::store::TextRoom;
 use std::alloc::{AllocError, Allocator};
 
-/// The bytes that are kept of a string; no byte and no memory once there were more than the limit.
+/// The buffer keeps the bytes of a string; none, and no memory, once there were more than the
+/// limit.
 #[derive(Drop)]
 pub struct HeapBuffer<A: Allocator> {
     pub bytes: Vec<u8, A>,
-    /// Whether there were more than the limit.
+    /// Says whether there were more than the limit.
     pub is_over: bool,
 }
 
 impl<A: Allocator> HeapBuffer<A> {
-    /// Nothing.
+    /// Returns an empty buffer.
     pub fn new(alloc: A) -> Self
         ensures { (limit : Option ℕ) → KeepsText limit result [] }
     {
@@ -34,7 +35,7 @@ impl<A: Allocator> TextRoom for HeapBuffer<A> {
 
     ghost may_fail = { λ _. Refused A };
 
-    // The memory is kept.
+    // The buffer keeps its memory.
     fn clear(&mut self) {
         self.bytes.clear();
         self.is_over = false;
@@ -55,7 +56,7 @@ impl<A: Allocator> TextRoom for HeapBuffer<A> {
         &self.bytes
     }
 
-    // Past the limit what was kept is let go, and its memory.
+    // Past the limit the buffer lets its bytes go, and its memory.
     #[inline]
     fn push(&mut self, limit: Option<usize>, text: &[u8]) -> Result<(), AllocError> {
         if self.is_over {

@@ -1,4 +1,4 @@
-//! A list of parameters that takes no memory.
+//! This module defines a list of parameters that takes no memory.
 #![tactic(auto)]
 
 ghost use Rattle.std.specs.Prelude.{◌≡◌, ◌<◌, ◌++◌, [], ◌∷◌, length};
@@ -6,8 +6,8 @@ ghost use Rattle.std.specs.Prelude.{◌≡◌, ◌<◌, ◌++◌, [], ◌∷◌,
 use esc_values::csi_param::CsiParam;
 use std::marker::Model;
 
-/// At most 256 parameters, in an array that is filled at the first of them: an empty list costs
-/// nothing to make. Contracts see the parameters.
+/// The list has at most 256 parameters, in an array that is filled at the first of them: an empty
+/// list costs nothing to make. Contracts see the parameters.
 #[derive(Drop)]
 pub struct ParamList {
     cells: Option<[CsiParam; 256]>,
@@ -27,7 +27,7 @@ impl Model for ParamList {
 }
 
 impl ParamList {
-    /// No parameters.
+    /// Returns an empty list.
     #[inline(always)]
     pub fn new() -> Self
         ensures { result ≡ [] }
@@ -38,7 +38,7 @@ impl ParamList {
         }
     }
 
-    /// No parameters any more.
+    /// Drops all parameters.
     #[inline(always)]
     pub fn clear(&mut self)
         ensures { self.new ≡ [] }
@@ -46,7 +46,7 @@ impl ParamList {
         self.count = 0;
     }
 
-    /// How many there are.
+    /// Returns the number of parameters.
     #[inline(always)]
     pub fn len(&self) -> usize
         ensures { result ≡ length self.now }
@@ -54,7 +54,7 @@ impl ParamList {
         self.count
     }
 
-    /// The parameters, in order.
+    /// Returns the parameters, in order.
     #[inline(always)]
     pub fn as_slice(&self) -> &[CsiParam]
         ensures { result.now ≡ self.now }
@@ -65,7 +65,7 @@ impl ParamList {
         }
     }
 
-    /// One more at the end.
+    /// Adds a parameter at the end.
     #[inline(always)]
     pub fn push(&mut self, entry: CsiParam)
         requires { length self.old < 256 }
@@ -80,7 +80,7 @@ impl ParamList {
         }
     }
 
-    // The first, for which the array is filled.
+    // Adds the first parameter, for which the array is filled.
     #[inline(never)]
     fn push_first(&mut self, entry: CsiParam)
         requires { self.old ≡ [] }

@@ -1,4 +1,4 @@
-//! The body of a control sequence that is short, read by itself.
+//! This module reads the body of a short control sequence by itself.
 #![tactic(auto)]
 
 ghost use Rattle.std.specs.Prelude.{◌≡◌, ◌≤◌, length, take};
@@ -7,7 +7,7 @@ ghost use Rattle.esc_frame.specs.Machine.Shorts.{IsShort};
 use crate::unfinished::fields::read_body;
 use esc_values::csi_param::CsiParam;
 
-/// At most 32 parameters. They take no memory.
+/// The value has at most 32 parameters. They take no memory.
 #[derive(Drop)]
 pub struct Short {
     pub items: [CsiParam; 32],
@@ -16,7 +16,7 @@ pub struct Short {
 }
 
 impl Short {
-    /// No parameters.
+    /// Returns a value without parameters.
     pub fn new() -> Self {
         Short {
             items: [CsiParam::P(0); 32],
@@ -24,7 +24,7 @@ impl Short {
         }
     }
 
-    /// The parameters, in order.
+    /// Returns the parameters, in order.
     #[inline(always)]
     pub fn as_slice(&self) -> &[CsiParam]
         ensures { result.now ≡ take self.now.count self.now.items }

@@ -1,4 +1,4 @@
-//! Where a machine keeps the text of an unfinished string.
+//! This module says where a machine keeps the text of an unfinished string.
 #![tactic(auto)]
 
 ghost use Rattle.std.specs.Prelude.{◌≡◌, ◌++◌, ℕ, List, [], Option, OnOk, OnErr, true, false, not, length};
@@ -10,33 +10,33 @@ use std::alloc::AllocError;
 /// Keeps the text of an unfinished string, as far as a limit allows. A store says by `keeps` what
 /// it keeps, and by `may_fail` why it may fail.
 pub trait TextRoom: Drop {
-    // this text is kept, each byte of which counts; or nothing, where it is past the limit
+    // says that this text is kept, each byte of which counts; or nothing, if it is past the limit
     ghost keeps: { Option ℕ → Self → List ℕ → Type 0 };
 
-    // why it may fail under this limit: a request for memory was refused to it
+    // says why it may fail under this limit: a request for memory was refused to it
     ghost may_fail: { Option ℕ → Type 0 };
 
     /// Begins anew.
     fn clear(&mut self)
         ensures { (limit : Option ℕ) → keeps limit self.new [] };
 
-    /// Whether no byte that counts has come.
+    /// Returns whether no byte that counts has come.
     fn is_new(&self) -> bool
         ensures { (limit : Option ℕ) (t : List ℕ) → keeps limit self.now t → result ≡ is_empty t };
 
-    /// Whether there were more bytes than the limit.
+    /// Returns whether there were more bytes than the limit.
     fn is_over(&self) -> bool
         ensures { (limit : Option ℕ) (t : List ℕ) → keeps limit self.now t
             → result ≡ not (is_within limit (length t)) };
 
-    /// The text; no byte of it where it is past the limit.
+    /// Returns the text; no byte of it if it is past the limit.
     fn bytes(&self) -> &[u8]
         ensures kept { (limit : Option ℕ) (t : List ℕ) → keeps limit self.now t
             → is_within limit (length t) ≡ true → result.now ≡ t }
         ensures none { (limit : Option ℕ) (t : List ℕ) → keeps limit self.now t
             → is_within limit (length t) ≡ false → result.now ≡ [] };
 
-    /// Takes text more, each byte of which counts.
+    /// Adds to the text. Each byte counts.
     fn push(&mut self, limit: Option<usize>, text: &[u8]) -> Result<(), AllocError>
         ensures ok { (t : List ℕ) → keeps limit self.old t
             → OnOk result (keeps limit self.new (t ++ text.now)) }

@@ -1,4 +1,4 @@
-//! Sequences of UTF-8 that have begun.
+//! This module reads sequences of UTF-8 that have begun.
 #![tactic(auto)]
 
 ghost use Rattle.std.specs.Prelude.{◌≡◌, ◌++◌, ℕ, List, [], ◌∷◌, ◌-◌, ◌*◌, ◌+◌, ◌≤◌, if◌then◌else◌, true, OnOk, OnErr, ◌<◌, false, length};
@@ -9,7 +9,7 @@ ghost use Rattle.esc_frame.specs.Machine.Prefixes.{prefix_of};
 use crate::unfinished::store::TextRoom;
 use std::alloc::AllocError;
 
-/// The bytes of a sequence that has begun.
+/// The value has the bytes of a sequence that has begun.
 #[derive(Clone, Copy)]
 pub enum Pending {
     Nothing,
@@ -18,7 +18,7 @@ pub enum Pending {
     Three(u8, u8, u8),
 }
 
-/// What the next byte makes of it.
+/// An outcome is what the next byte makes of a begun sequence.
 #[derive(Clone, Copy)]
 pub enum Outcome {
     Whole,
@@ -64,7 +64,7 @@ fn chosen(whole: bool, more: bool) -> Outcome
 }
 
 impl Pending {
-    /// What the byte makes of the prefix.
+    /// Returns what the byte makes of the prefix.
     #[tactic(auto, unfolding(crate::specs::Sequences::is_sequence, crate::specs::Sequences::is_prefix))]
     pub fn outcome(self, b: u8) -> Outcome
         ensures { result ≡ outcome (prefix_of self) b }
@@ -89,7 +89,7 @@ impl Pending {
         }
     }
 
-    /// The prefix with the byte.
+    /// Returns the prefix with the byte.
     #[tactic(auto, unfolding(crate::specs::Sequences::is_prefix))]
     pub fn with(self, b: u8) -> Pending
         ensures { is_prefix (prefix_of self ++ b ∷ []) ≡ true
@@ -103,7 +103,7 @@ impl Pending {
         }
     }
 
-    /// Whether prefix and byte are C2 80 to C2 9F.
+    /// Returns whether prefix and byte are C2 80 to C2 9F.
     #[tactic(auto, unfolding(crate::specs::Sequences::is_pair))]
     pub fn pairs_with(self, b: u8) -> bool
         ensures { result ≡ is_pair (prefix_of self ++ b ∷ []) }
@@ -114,7 +114,7 @@ impl Pending {
         }
     }
 
-    /// The character of prefix and byte.
+    /// Returns the character of prefix and byte.
     #[tactic(auto, unfolding(crate::specs::Sequences::is_sequence, crate::specs::Sequences::number_of))]
     pub fn character(self, b: u8) -> char
         requires { is_sequence (prefix_of self ++ b ∷ []) ≡ true }
@@ -128,7 +128,7 @@ impl Pending {
         }
     }
 
-    /// Appends prefix and byte to the text.
+    /// Appends prefix and byte to the text. The error is that of the store.
     pub fn put<K: TextRoom>(
         self,
         limit: Option<usize>,
@@ -189,8 +189,8 @@ fn four(a: u8, b: u8, c: u8, d: u8) -> char
     }
 }
 
-/// The character of the whole sequence, no control, that comes first, and its length; length 0
-/// where none does.
+/// Returns the length and the character of the whole sequence, no control, that comes first; length
+/// 0 if none does.
 #[inline(always)]
 pub fn ahead(rest: &[u8]) -> (usize, char)
     ensures ahead { IsAhead rest.now result.0 result.1 }
@@ -207,7 +207,7 @@ pub fn ahead(rest: &[u8]) -> (usize, char)
     }
 }
 
-/// The same of fewer than four bytes. It is out of the way of the code for more.
+/// Returns the same of fewer than four bytes, apart from the fast code for more.
 #[inline(never)]
 pub fn ahead_of_few(rest: &[u8]) -> (usize, char)
     requires { length rest.now < 4 }

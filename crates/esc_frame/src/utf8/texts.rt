@@ -1,11 +1,11 @@
-//! The first character of a text, by how many bytes it takes.
+//! This module finds the first character of a text, by how many bytes it takes.
 #![tactic(auto)]
 
 ghost use Rattle.std.specs.Prelude.{◌<◌, ◌≤◌, length, slice_index};
 ghost use Rattle.esc_frame.specs.Machine.Texts.{IsClearText, IsNext};
 ghost use Rattle.esc_frame.specs.Scans.{StartsFrom};
 
-/// The character that comes first, and how many bytes it takes.
+/// Returns the character that comes first, and how many bytes it takes.
 #[inline(always)]
 pub fn first_of(text: &[u8]) -> (char, usize)
     requires some { 0 < length text.now }
@@ -24,7 +24,7 @@ pub fn first_of(text: &[u8]) -> (char, usize)
     }
 }
 
-// The character of two bytes that comes first.
+// Returns the character of two bytes that comes first.
 #[inline(always)]
 fn two_of(text: &[u8]) -> char
     requires starts { StartsFrom 0x80 0xdf text.now }
@@ -35,7 +35,7 @@ fn two_of(text: &[u8]) -> char
     unsafe { char::from_u32_unchecked(n) }
 }
 
-// The character of three bytes that comes first.
+// Returns the character of three bytes that comes first.
 #[inline(always)]
 fn three_of(text: &[u8]) -> char
     requires starts { StartsFrom 0xe0 0xef text.now }
@@ -46,7 +46,7 @@ fn three_of(text: &[u8]) -> char
     unsafe { char::from_u32_unchecked(n) }
 }
 
-// The character of four bytes that comes first.
+// Returns the character of four bytes that comes first.
 #[inline(always)]
 fn four_of(text: &[u8]) -> char
     requires some { 0 < length text.now }

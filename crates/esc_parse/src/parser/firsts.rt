@@ -19,7 +19,7 @@ use esc_frame::runs::printing::first_char;
 use std::alloc::Allocator;
 use std::mem;
 
-// The list, with the number of bytes that it was read from, if there is one.
+// Returns the list, with the number of bytes that it was read from, if there is one.
 #[inline]
 fn listed<L: Drop>(list: L, found: Option<usize>) -> Option<(L, usize)>
     ensures { result ≡ option_map (λ n. (list, n)) found }
@@ -65,7 +65,7 @@ impl<A: Allocator + Copy> Parser<A> {
         }
     }
 
-    // The same; a run of data that gives no action by itself counts as one byte.
+    // Does the same; a run of data that gives no action by itself counts as one byte.
     fn feed_some<S: Sink<Action<A>>>(
         &mut self,
         bytes: &[u8],
@@ -85,7 +85,8 @@ impl<A: Allocator + Copy> Parser<A> {
         }
     }
 
-    // The first action that a prefix of `bytes` adds, if one does, and the length of the prefix.
+    // Returns the first action that a prefix of `bytes` adds, if one does, and the length of the
+    // prefix.
     fn first_in(&mut self, bytes: &[u8]) -> (Result<usize, ParseError>, Option<Action<A>>)
         ensures { TakesPrefix self.old bytes.now result.0 self.new (result.1 ≡ None)
             (λ vs. option_map value_of result.1 ≡ first vs)
@@ -95,8 +96,8 @@ impl<A: Allocator + Copy> Parser<A> {
         (taken, action)
     }
 
-    // The first action of the shortest prefix of `bytes` that adds one, and the length of the
-    // prefix.
+    // Returns the first action of the shortest prefix of `bytes` that adds one, and the length of
+    // the prefix.
     fn first_of(&mut self, bytes: &[u8]) -> Result<Option<(Action<A>, usize)>, ParseError>
         ensures { FindsFirst self.old bytes.now result self.new }
     {
@@ -117,7 +118,7 @@ impl<A: Allocator + Copy> Parser<A> {
         }
     }
 
-    // The control that comes first, in ground.
+    // Returns the control that comes first, in ground.
     #[tactic(auto, unfolding(crate::specs::Fed::ParserHasConsumedWithin))]
     #[cold]
     fn first_control(&self, bytes: &[u8]) -> Option<ControlCode>
@@ -129,10 +130,11 @@ impl<A: Allocator + Copy> Parser<A> {
         ControlCode::from_byte(self.framer.first_control(bytes)?)
     }
 
-    /// The first action of the shortest prefix of `bytes` that adds one to the meaning of the bytes
-    /// fed before, and the length of this prefix, which is all that was fed; further actions of its
-    /// last byte are dropped. `None` says that `bytes` add none: then all were fed. It can be
-    /// written, but for the four kinds of [`is_exception`](esc_actions::exceptions::is_exception).
+    /// Returns the first action of the shortest prefix of `bytes` that adds one to the meaning of
+    /// the bytes fed before, and the length of this prefix, which is all that was fed; further
+    /// actions of its last byte are dropped. `None` says that `bytes` add none: then all were fed.
+    /// It can be written, but for the four kinds of
+    /// [`is_exception`](esc_actions::exceptions::is_exception).
     ///
     /// `ParseError::Memory` says that a request for memory was refused; the parser has failed. It
     /// does not come if the bytes fed before and `bytes` hold no control sequence and no string,
@@ -171,7 +173,7 @@ impl<A: Allocator + Copy> Parser<A> {
         (taken, actions)
     }
 
-    // Whether actions came after the first `had`, and no segment is unfinished.
+    // Returns whether actions came after the first `had`, and no segment is unfinished.
     #[tactic(auto, unfolding(crate::specs::Fed::ParserHasConsumedWithin))]
     fn stops(&self, had: usize, actions: &[Action<A>]) -> bool
         ensures some { IsTrue result → had < length actions.now }
@@ -210,8 +212,8 @@ impl<A: Allocator + Copy> Parser<A> {
         }
     }
 
-    // The same, in the caller's list, which may have no room yet, apart from the code that appends
-    // one character.
+    // Does the same, in the caller's list, which may have no room yet, apart from the code that
+    // appends one character.
     #[inline(never)]
     fn firsts_of(
         &mut self,
@@ -264,7 +266,7 @@ impl<A: Allocator + Copy> Parser<A> {
         self.firsts_of(bytes, actions)
     }
 
-    /// All actions of the shortest prefix of `bytes` that adds one and leaves no segment
+    /// Returns all actions of the shortest prefix of `bytes` that adds one and leaves no segment
     /// unfinished, and the length of this prefix, which is all that was fed. So no later action
     /// belongs to a sequence or a string that began before: a string comes with its terminator.
     /// `None` says that there is no such prefix: then all `bytes` were fed, and the actions that

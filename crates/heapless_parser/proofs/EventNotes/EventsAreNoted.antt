@@ -1,4 +1,4 @@
--- What was noted, event after event.
+-- Events that are noted, one after another.
 use Rattle.std.proofs.Common.{ℕ, ◌≡◌, ◌≢◌, ◌≤◌, ◌<◌, ◌+◌, ◌-◌, min, Bool, true, false, List, [], ◌∷◌, ◌++◌, length, Option, Some}
 use Rattle.std.proofs.Common.{refl, ap, sym, ◌∙◌, subst, append_assoc, inl, arith}
 use Rattle.std.proofs.lemmas.List.{append-nil}
@@ -15,7 +15,7 @@ use Rattle.heapless_parser.proofs.InChunks.CommandsLieWhole.{within, within_only
 pub parts_room : (place : ℕ) (t : List ℕ) → length (joined (parts_of t)) ≤ place → length t ≤ place
 parts_room place t h = subst (λ y. length y ≤ place) (joined_parts t) h
 
--- what has no room in a store that is its limit long does not fit
+-- a text that has no room in a store as long as the limit does not fit
 pub no_room : (limit : Option ℕ) (room count more : ℕ) (fits : Bool)
     → ((n : ℕ) → is_within limit n ≡ true → count ≡ min n most
     → fits ≡ is_within limit (n + more))
@@ -66,7 +66,7 @@ module _ {S : Type 0} (event : S → EscEvent) (out : S → List ℕ) (queued va
   all_sound (x ∷ es) old new (j, a, r) h =
       all_sound es j new r (a.1 h.0, a.2 h.1, a.3 h.2, a.4 h.3, a.5 h.4)
 
-  -- of notable events none is lost
+  -- no notable event is lost
   pub none_lost : (es : List Event) (old new : S) → AreNotable place es → FoldsTo Notes old es new
       → lost old ≡ false → (event old).kind ≡ 0 → queued old ≡ 0
       → (lost new ≡ false) × ((event new).kind ≡ 0 → queued new ≡ 0)

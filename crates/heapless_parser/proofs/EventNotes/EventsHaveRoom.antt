@@ -32,13 +32,13 @@ module _ (room place : ℕ) (less : room ≤ place) where
   abbrev limit : Option ℕ
   limit = Some room
 
-  -- no event, or one that has room
+  -- there is no event, or one that has room
   abbrev First : List Event → Type 0
   First [] = Unit {0}
   First (e ∷ []) = HasRoom place e
   First _ = ⊥
 
-  -- no event, or one that can wait
+  -- there is no event, or one that can wait
   abbrev Waits : List Event → Type 0
   Waits [] = Unit {0}
   Waits (d ∷ []) = can_wait d ≡ true

@@ -1,4 +1,4 @@
--- A limit adds no event; and where a string ends that is longer than it, there is one fewer.
+-- A limit adds no event, and if a string longer than it ends, there is one fewer.
 use Rattle.std.proofs.Common.{ℕ, ◌≡◌, ◌≤◌, ◌<◌, ◌-◌, ◌⊎◌, inl, inr, Bool, true, false, ◌&&◌, ◌||◌, if◌then◌else◌, List, [], ◌∷◌, ◌++◌, length, get_or, Option, Some, None, refl, ap, sym, ◌∙◌, subst, arith}
 use Rattle.std.specs.List.{list_any}
 use Rattle.std.proofs.lemmas.Bool.{and_parts}
@@ -182,11 +182,11 @@ StaysBy is_in is_blank introducer b m =
     (is_in (m None).0 ≡ true) × ((l : Option ℕ) → (m l).1 ≡ [])
     × (b ≡ introducer → is_blank (m None).0 ≡ false)
 
--- the event of the string's text, where it is within the limit
+-- the event of the string's text, if that is within the limit
 abbrev pub if_within : Option ℕ → List ℕ → Event → List Event
 if_within l t e = if is_within l (length t) then e ∷ [] else []
 
--- The byte ends it: its event comes first, where it is within the limit.
+-- The byte ends the string: its event comes first, if it is within the limit.
 abbrev pub EndsBy : (Event → Bool) → (Option ℕ → Move) → Type 0
 EndsBy hands m =
     (e : Event) × (hands e ≡ true) × (t : List ℕ) × (es : List Event)

@@ -1,4 +1,4 @@
--- What was noted, event after event.
+-- Events that are noted, one after another.
 use Rattle.std.proofs.Common.{◌≡◌, Bool, false, List, [], ◌∷◌, ◌++◌, Result, ap, sym, ◌∙◌, subst, append_assoc}
 use Rattle.std.proofs.lemmas.List.{append-nil}
 use Rattle.std.specs.List.{FoldsTo}
@@ -11,7 +11,7 @@ pub receives_both : {S E : Type 0} (own : Type 0) (takes refuses : S → Event �
 receives_both own takes refuses result old new e h =
     receives_takes own takes refuses result old new e h
 
--- where each event is added to what was said, and a mark stays off
+-- each event is added to the events so far, and a mark stays off
 module _ {S : Type 0} (says : S → List Event) (mark : S → Bool) where
   abbrev pub Adds : S → Event → S → Type 0
   Adds p e q = (says q ≡ says p ++ e ∷ []) × (mark p ≡ false → mark q ≡ false)

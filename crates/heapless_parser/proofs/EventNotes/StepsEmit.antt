@@ -1,4 +1,4 @@
--- What a step of the machine took and emitted.
+-- The bytes that a step of the machine took, and their events.
 use Rattle.std.proofs.Common.{ℕ, ◌≡◌, ◌≢◌, ◌≤◌, ◌<◌, ◌||◌, Bool, true, false, List, [], ◌++◌, take, length, Result, Ok, Err, refl, ap, ◌∙◌, subst, Option, Some, arith}
 use Rattle.esc_frame.specs.Leads.{Unfinished}
 use Rattle.esc_frame.specs.Machine.Calls.{Took, Fails, Advances, Quietly}
@@ -21,7 +21,7 @@ taken_few is_ready r n true rest before machine old new ok none h =
 taken_few is_ready r n false rest before machine old new ok none h =
     (subst (λ x. Advances is_ready x rest before machine old new) (ok refl) h).1
 
--- neither holds
+-- neither of the two holds
 pub or_parts : (a b : Bool) → (a || b) ≡ false → (a ≡ false) × (b ≡ false)
 or_parts false b h = (refl, h)
 or_parts true b h = absurd cc
@@ -41,7 +41,7 @@ pub said_nothing : (e : EscEvent) (o : List ℕ) (k v : ℕ) → e.kind ≡ 0 �
     ≡ []
 said_nothing e o k v a b = rw (a, b) refl
 
--- What a step from nothing noted took. The machine's store has room for what is within the limit.
+-- A step before which nothing was noted. The machine's store has room for a text within the limit.
 module _ {K A S E : Type 0} (keeps : Option ℕ → K → List ℕ → Type 0) (event : S → EscEvent)
     (out : S → List ℕ) (queued value : S → ℕ) (lost : S → Bool) (room place : ℕ) (u : Unfinished)
     (rest : List ℕ) (machine : Machine K A) (old new : S) (kind : (event old).kind ≡ 0)

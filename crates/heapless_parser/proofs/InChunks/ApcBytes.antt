@@ -24,7 +24,7 @@ use Rattle.heapless_parser.proofs.KeptState.StateHasOnly.{in_apc_only}
 use Rattle.heapless_parser.proofs.InChunks.OscBytes.{not_false}
 use Rattle.heapless_parser.proofs.InChunks.CommandsLieWhole.{escape_at}
 
--- its text
+-- the text of the command
 pub text_passes : (p q : EscParser) (memory after x : List ℕ) → p.state ≡ 7 → q.state ≡ p.state
     → list_all is_text_byte x ≡ true
     → ((t : List ℕ) → TextIn p memory t → TextIn q after (t ++ x)) → PassesIn p q memory after x
@@ -59,7 +59,7 @@ apc_ends p q e memory out b seven is off kind text keeps = λ u h.
           ∙ sym k.1,
     )) u h
 
--- a byte that is passed over
+-- an ignored byte
 text_same : (d : List ℕ) (b : ℕ) → is_text (class_of b) ≡ false
     → bytes_of_class is_text d ≡ bytes_of_class is_text (d ++ b ∷ [])
 text_same d b off = sym (filter-append (λ b. is_text (class_of b)) d (b ∷ [])

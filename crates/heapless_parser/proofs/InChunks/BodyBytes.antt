@@ -1,4 +1,4 @@
--- The body of a control sequence that a parser keeps, a byte further.
+-- The kept body of a control sequence after one more byte.
 use Rattle.std.proofs.Common.{ℕ, ◌≡◌, ◌≤◌, ◌<◌, ◌+◌, ◌-◌, ◌*◌, true, false, List, [], ◌∷◌, ◌++◌, map, take, length, ap, sym, ◌∙◌, subst, Some, None, Option, nat_lt, arith}
 use Rattle.std.proofs.lemmas.List.{length-map, length-take-le}
 use Rattle.esc_values.specs.declared.csi_param.CsiParam.{CsiParam}
@@ -39,7 +39,7 @@ module _ (p q : EscParser) (e : EscEntry) (all : List CsiParam) (h : ParamsIn p 
         },
       )
 
-  -- where the list stays as it is
+  -- the list stays as it is
   module _ (list : q.csi_params ≡ p.csi_params) (count : q.count ≡ p.count) where
     same_items : map param_of (take q.count q.csi_params) ≡ items
     same_items = ap (λ k. map param_of (take k q.csi_params)) count

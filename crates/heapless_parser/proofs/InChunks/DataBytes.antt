@@ -1,4 +1,4 @@
--- Bytes of data, and of what is passed over, that lie in a later chunk than the opener.
+-- Bytes of data, and of ignored strings, that lie in a later chunk than the opener.
 use Rattle.std.proofs.Common.{ℕ, ◌≡◌, Bool, true, false, not, ◌&&◌, List, [], ◌∷◌, ◌++◌, length, refl, ap, sym, ◌∙◌, subst, Some, Option, if◌then◌else◌}
 use Rattle.std.specs.List.{list_all}
 use Rattle.esc_frame.specs.declared.classes.Class.{Class}
@@ -63,7 +63,7 @@ end_notes p q e b five one kept more is kind out limit = λ u memory room h.
       rw kind (sym k.1 ∙ ap (λ n. events_all (Some n) (InData o x f d) (b ∷ [])) room),
     )) u h
 
--- ---- what is passed over
+-- ---- ignored strings
 
 pub unbroken : (t : Bool) → not t ≡ true → t ≡ false
 unbroken true h = absurd cc
@@ -76,7 +76,7 @@ no_breaker _ h = refl
 pub text_goes_on : (b : ℕ) → is_text_byte b ≡ true → is_breaker (class_of b) ≡ false
 text_goes_on b h = no_breaker (class_of b) (text_class b h)
 
--- bytes of which none breaks it off
+-- bytes, none of which breaks the string off
 module _ (p : ℕ → Bool) (each : (b : ℕ) → p b ≡ true → is_breaker (class_of b) ≡ false)
     (q : EscParser) (six : q.state ≡ 6) (ys : List ℕ) (all : list_all p ys ≡ true) where
   over : (l : Option ℕ) (u : List ℕ → Unfinished)

@@ -83,7 +83,7 @@ module _ (p : EscParser) (e : EscEvent) (b : ℕ) (c : Class) (is : c ≡ class_
   noise_notes (inl s) = in_escape_notes s
   noise_notes (inr s) = in_csi_notes s
 
--- a control, and a byte that is passed over
+-- a control, and an ignored byte
 pub control_said : (e : EscEvent) (b : ℕ) (c : Class) → e.kind ≡ 3 → e.byte ≡ b → is_c0 c ≡ true
     → (out : List ℕ) → sent_events e out ≡ noise b c
 control_said e b c kind byte is out =

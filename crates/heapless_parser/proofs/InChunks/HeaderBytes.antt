@@ -55,7 +55,7 @@ body_goes : (b : ℕ) → is_body_byte b ≡ true
 unfolding class_of
 body_goes b h = (grind (arith, nat_tests), grind (arith, nat_tests))
 
--- where the byte breaks nothing off and ends nothing
+-- the byte breaks nothing off and ends nothing
 stays : (l : Option ℕ) (o : Opener) (x : List ℕ) (b : ℕ) → is_breaker (class_of b) ≡ false
     → in_csi (class_of b) ≡ true
     → move l (InDcs o x) b (class_of b) ≡ (InDcs o (x ++ b ∷ []), [])
@@ -126,7 +126,7 @@ ends l o x b low high =
 
 module _ (p q : EscParser) (e : EscEvent) (memory out : List ℕ) (b : ℕ) (four : p.state ≡ 4)
     (low : 0x40 ≤ b) (high : b ≤ 0x7e) where
-  -- of another form
+  -- the header or body has another form
   pub malformed_steps : p.form ≡ 3 → q.state ≡ 6 → e.kind ≡ 0
       → Steps p q e out memory memory (b ∷ [])
   malformed_steps three six none = λ u h.
@@ -149,7 +149,7 @@ module _ (p q : EscParser) (e : EscEvent) (memory out : List ℕ) (b : ℕ) (fou
       unread true t h = h
       unread false t h = refl
 
-  -- of its form
+  -- the header or body has its form
   pub hook_steps : p.is_over ≡ false → p.form ≢ 3 → q.state ≡ 5 → e.kind ≡ 7 → e.byte ≡ b
       → text_of e out ≡ take p.text memory → e.intermediates ≡ p.intermediates
       → e.kept ≡ min p.kept 2 → e.has_more ≡ p.has_more → Steps p q e out memory memory (b ∷ [])

@@ -1,4 +1,4 @@
--- What a byte does where it lies in a later chunk than the bytes before it.
+-- The effect of a byte that lies in a later chunk than the bytes before it.
 use Rattle.std.proofs.Common.{ℕ, ◌≡◌, ◌≢◌, ◌≤◌, ◌<◌, Bool, true, false, List, [], ◌∷◌, ◌++◌, map, take, length, get_or, refl, ap, sym, ◌∙◌, subst, Some, None, Option, min, if◌then◌else◌, arith}
 use Rattle.std.proofs.lemmas.List.{append-nil}
 use Rattle.esc_values.specs.declared.csi_param.CsiParam.{CsiParam}
@@ -37,14 +37,14 @@ pub first_taken : (x : List ℕ) → 0 < length x → take 1 x ≡ get_or x 0 0 
 first_taken [] h = absurd (omega arith)
 first_taken (b ∷ x) h = refl
 
--- bytes that give nothing, and an event that says nothing
+-- bytes that emit nothing, and an event that stands for none
 pub nothing_noted : (p q : EscParser) (e : EscEvent) (x : List ℕ) → e.kind ≡ 0 → Passes p q x
     → (out : List ℕ) (limit : ℕ) → Notes p q e out limit x
 nothing_noted p q e x none passes out limit = λ u memory room h.
     let k = passes memory u h in
     (k.0, rw none (sym k.1 ∙ ap (λ n. events_all (Some n) u x) room))
 
--- by what the byte makes of what is unfinished
+-- by the move that the byte makes
 pub by_move : (limit : Option ℕ) (u v : Unfinished) (b : ℕ) (es : List Event)
     → move limit u b (class_of b) ≡ (v, es)
     → (after_all u (b ∷ []) ≡ v) × (events_all limit u (b ∷ []) ≡ es)
@@ -53,7 +53,7 @@ by_move limit u v b es same = (
   append-nil _ ∙ ap (λ m. m.1) same,
 )
 
--- a byte that gives nothing
+-- a byte that emits nothing
 pub moves_on : (q : EscParser) (after : List ℕ) (limit : Option ℕ) (u v : Unfinished) (b : ℕ)
     → move limit u b (class_of b) ≡ (v, []) → KeptIn q after v
     → KeptIn q after (after_all u (b ∷ [])) × (events_all limit u (b ∷ []) ≡ [])
@@ -66,7 +66,7 @@ pub none_first : (x : List ℕ) → length (take 2 x) ≡ 0 → is_empty x ≡ t
 none_first [] h = refl
 none_first (a ∷ x) h = absurd cc
 
--- the letter after it that opens a sequence or a string
+-- the letter after an ESC that opens a sequence or a string
 pub opener_passes : (p q : EscParser) (b : ℕ) (k : Kind) → p.state ≡ 1 → p.kept ≡ 0
     → class_of b ≡ Introducer k → ((o : Opener) (memory : List ℕ)
     → KeptIn q memory (unfinished_at_opener k o))
@@ -84,7 +84,7 @@ opener_passes p q b k one kept is opens = λ memory.
 
 -- ---- a control sequence
 
--- a byte of its body
+-- a byte of the body of a control sequence
 pub body_passes : (p q : EscParser) (b : ℕ) → p.state ≡ 2 → q.state ≡ p.state
     → is_body_byte b ≡ true → ((x : List ℕ) → BodyIn p x → BodyIn q (x ++ b ∷ []))
     → Passes p q (b ∷ [])
@@ -100,7 +100,7 @@ body_passes p q b two same d more = λ memory.
       k.1,
     ))
 
--- its final byte
+-- the final byte of a control sequence
 module _ (p q : EscParser) (e : EscEvent) (b : ℕ) (two : p.state ≡ 2) (low : 0x40 ≤ b)
     (high : b ≤ 0x7e)
     (zero : q.state ≡ 0)
@@ -116,7 +116,7 @@ module _ (p q : EscParser) (e : EscEvent) (b : ℕ) (two : p.state ≡ 2) (low :
         says (without_noise x) out i ∙ sym d.1,
       )) u h
 
-  -- of another form
+  -- the header or body has another form
   pub malformed_notes : p.form ≡ 3 → e.kind ≡ 0
       → (out : List ℕ) (limit : ℕ) → Notes p q e out limit (b ∷ [])
   malformed_notes three off =
@@ -124,7 +124,7 @@ module _ (p q : EscParser) (e : EscEvent) (b : ℕ) (two : p.state ≡ 2) (low :
       sym (formed x) ∙ ap is_formed (sym h.3 ∙ ap form_numbered three) in
       rw (off, no) refl)
 
-  -- of its form
+  -- the header or body has its form
   pub formed_notes : (r : EscParser) → p.form ≢ 3
       → ((o : Option ℕ) (all : List CsiParam) → NumberIn p o → ParamsIn p all
       → ParamsIn r (all ++ params_with o))
@@ -189,7 +189,7 @@ more_passes p q b zero same goes begins = λ memory.
     (ap (pending_move f b (class_of b)) more)
     (state, begins ∙ ap (λ f. f ++ b ∷ []) is, some_after f b))
 
--- the byte that does
+-- the byte that completes it
 pub whole_notes : (p q : EscParser) (e : EscEvent) (b : ℕ) → p.state ≡ 0 → q.state ≡ 0
     → q.pending ≡ 0 → outcome (begun_in p) b ≡ Whole → is_pair (begun_in p ++ b ∷ []) ≡ false
     → e.kind ≡ 2 → e.byte ≡ number_of (begun_in p ++ b ∷ [])

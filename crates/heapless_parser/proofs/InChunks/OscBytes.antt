@@ -133,7 +133,7 @@ module _ (p q : EscParser) (memory after : List ℕ) (b : ℕ) (three : p.state 
         some_after f b,
       )) u h
 
-  -- the byte that does
+  -- the byte that completes it
   pub whole_in_osc : outcome (begun_in p) b ≡ Whole → is_pair (begun_in p ++ b ∷ []) ≡ false
       → begun_in q ≡ []
       → ((t : List ℕ) → TextIn p memory t → TextIn q after (t ++ (begun_in p ++ b ∷ [])))
@@ -159,7 +159,7 @@ module _ (p q : EscParser) (memory after : List ℕ) (b : ℕ) (three : p.state 
         empty,
       )) u h
 
--- ---- bytes that are passed over
+-- ---- ignored bytes
 
 text_same : (ps : List OscUnit) (b : ℕ) → is_text (class_of b) ≡ false
     → segments.text_of ps ≡ segments.text_of (ps ++ One b ∷ [])

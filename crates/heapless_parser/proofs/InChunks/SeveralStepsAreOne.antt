@@ -50,11 +50,11 @@ module _ (bytes : List ℕ) (at n : ℕ) where
       → IsUtf8 (placed_bytes (record e { start = at }) bytes)
   utf8_placed e h = subst (λ y. IsUtf8 (take e.length y)) (take_rest bytes at) h
 
--- an event that says nothing, and nothing that is to be handed out
+-- no event stands for no event of the stream
 pub says_nothing : (e : EscEvent) (out run : List ℕ) → e.kind ≡ 0 → emitted_by e out run ≡ []
 says_nothing e out run h = rw h refl
 
--- the parser is where it was
+-- bytes were taken, and the event of them was handed out
 pub at_more : (s bytes : List ℕ) (n : ℕ) (es : List Event) (old new : EscParser)
     (memory later : List ℕ) (said : List Event) → length later ≡ length memory
     → new.has_failed ≡ old.has_failed → queued_of old.queued_kind old.queued_value ≡ []
@@ -78,7 +78,7 @@ at_more s bytes n es old new memory later said same failed queued kept emitted h
           ∙ sym (append_assoc es said (queued_of new.queued_kind new.queued_value)),
     )
 
--- what was to be handed out was handed out
+-- the queued event was handed out
 pub at_queued : (s bytes : List ℕ) (es : List Event) (old new : EscParser) (memory : List ℕ)
     (said : List Event) → new.has_failed ≡ old.has_failed
     → said ≡ queued_of old.queued_kind old.queued_value
@@ -110,7 +110,7 @@ at_first s bytes n es p memory e out start queued emits h =
     ∙ ap (λ i. emitted_by e out (take e.length (drop i bytes))) start
     ∙ (emits u memory refl k).1) h
 
--- of a stream
+-- the same, after a stream
 pub adds_fewer : (limit : ℕ) (s x : List ℕ) → IsLimited limit (after_all Ground s) x
     → AddsFewer limit s x
 adds_fewer limit s x h = rw (added_is (Some limit) s x, added_is None s x) h

@@ -1,4 +1,4 @@
--- Controls that end a string, where it came in chunks.
+-- Controls that end a string that came in chunks.
 use Rattle.std.proofs.Common.{ℕ, ◌≡◌, true, false, List, [], ◌∷◌, ◌++◌, take, length, refl, ap, sym, ◌∙◌, subst, Some, if◌then◌else◌}
 use Rattle.esc_frame.specs.Classes.{class_of, bytes_of_class, is_text, is_breaker}
 use Rattle.esc_frame.specs.Events.{Event}
@@ -24,7 +24,7 @@ module _ (p q : EscParser) (e : EscEvent) (memory out : List ℕ) (b : ℕ)
     (is : is_breaker (class_of b) ≡ true)
     (keeps : KeptIn q memory (ground_move b (class_of b)).0)
     (queued : queued_of q.queued_kind q.queued_value ≡ (ground_move b (class_of b)).1) where
-  -- it does what it does between sequences, after what is handed out of the string
+  -- the control acts as between sequences, after the event of the string
   after : (u : Unfinished) (es : List Event)
       → move (Some (length memory)) u b (class_of b)
       ≡ emitting es (ground_move b (class_of b))

@@ -1,4 +1,4 @@
--- What is kept of a stream of which nothing is unfinished.
+-- The kept part of a stream that has nothing unfinished.
 use Rattle.std.proofs.Common.{◌≡◌, Bool, true, false, if◌then◌else◌, ℕ, List, [], Some, length, refl, sym, ap, ◌∙◌, subst}
 use Rattle.esc_frame.specs.Classes.{without_noise}
 use Rattle.esc_frame.specs.Leads.{Unfinished}

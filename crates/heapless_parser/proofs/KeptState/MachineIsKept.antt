@@ -1,4 +1,4 @@
--- A machine, and what a parser keeps of it.
+-- A machine, and the numbers that a parser keeps of it.
 use Rattle.std.proofs.Common.{ℕ, ◌≡◌, List, ap, sym, ◌∙◌, Some, Option, length, if◌then◌else◌}
 use Rattle.esc_frame.specs.Classes.{without_noise}
 use Rattle.esc_frame.specs.Leads.{Unfinished, Holds}

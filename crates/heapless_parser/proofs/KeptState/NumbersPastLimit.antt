@@ -1,4 +1,4 @@
--- What the numbers of a parser say of a string that is longer than the limit.
+-- A string longer than the limit, by the numbers of a parser.
 use Rattle.std.proofs.Common.{ℕ, suc, ◌≡◌, ◌≢◌, ◌≤◌, ◌<◌, ◌-◌, ◌⊎◌, inl, inr, Bool, true, false, true≢false, not, ◌&&◌, List, [], ◌∷◌, ◌++◌, if◌then◌else◌, length, get_or, Option, Some, None, refl, ap, sym, ◌∙◌, subst, arith}
 use Rattle.std.proofs.lemmas.Bool.Decides.{nat_tests}
 use Rattle.esc_frame.specs.declared.classes.Class.{Class}
@@ -171,7 +171,7 @@ left_shift : (q : EscParser) (a b : ℕ) (x : List ℕ) → HasLeft 3 0x9d q (a 
 left_shift q a b x (inl out) = inl out
 left_shift q a b x (inr (z, o, w, l)) = inr (z, o, w, sym (last_shift a b x) ∙ l)
 
--- an opener, and what follows it
+-- an opener, and the bytes after it
 from_opener : (q : EscParser) (limit : ℕ) (later : List ℕ) (x : List ℕ)
     → OpensOsc x → KeptIn q later (after_all Ground x)
     → none_of hands_osc (events_all (Some limit) Ground x) → HasLeft 3 0x9d q x

@@ -1,4 +1,4 @@
--- What can be unfinished in a state.
+-- The segments that can be unfinished in a state.
 use Rattle.std.proofs.Common.{ℕ, ◌≡◌, Bool, true, false, List, [], length, refl, sym, subst, Some, if◌then◌else◌}
 use Rattle.esc_frame.specs.Classes.{without_noise, bytes_of_class, is_text}
 use Rattle.esc_frame.specs.Leads.{Unfinished}
@@ -14,7 +14,7 @@ use Rattle.heapless_parser.specs.Numbers.{state_numbered}
 use Rattle.heapless_parser.specs.States.{KeptIn, FirstIn, BodyIn, HeaderIn, TextIn, begun_in}
 
 module _ (p : EscParser) (memory : List ℕ) (P : Unfinished → Type 0) where
-  -- this holds of all that may be unfinished in a state
+  -- this holds of each segment that may be unfinished in a state
   abbrev pub Only : State → Type 0
   Only state.Ground = (begun_in p ≡ [] → P Ground)
       × ((f : List ℕ) → begun_in p ≡ f → is_empty f ≡ false → P (Pending f))
@@ -89,7 +89,7 @@ module _ (p : EscParser) (memory : List ℕ) (P : Unfinished → Type 0) where
   pub in_header_only : p.state ≡ 4 → Only state.Dcs → (u : Unfinished) → KeptIn p memory u → P u
   in_header_only = only_in
 
-  -- in what is passed over
+  -- in an ignored string
   pub ignored_only : p.state ≡ 6
       → ((k : Kind) (o : Opener) (d : List ℕ) → P (InIgnored k o d))
       → ((o : Opener) (x : List ℕ) (f : ℕ) (d : List ℕ)

@@ -1,4 +1,4 @@
--- What is unfinished, by the number of the state.
+-- The unfinished segment, by the number of the state.
 use Rattle.std.proofs.Common.{ℕ, ◌≡◌, true, true≢false, false, List, [], map, take, length, refl, ap, sym, ◌∙◌, subst, Some, if◌then◌else◌}
 use Rattle.std.specs.List.{list_all, prefix_len}
 use Rattle.std.specs.Str.{chars}
@@ -20,7 +20,7 @@ use Rattle.heapless_parser.specs.Runs.{Gives, IsTextRun}
 use Rattle.heapless_parser.specs.States.{KeptIn, begun_in}
 use Rattle.heapless_parser.proofs.KeptState.StateHasOnly.{in_ground_only, data_only}
 
--- nothing
+-- the parser keeps nothing
 module _ (p : EscParser) (memory : List ℕ) (zero : p.state ≡ 0) (none : p.pending ≡ 0) where
   no_bytes : begun_in p ≡ []
   no_bytes = ap (λ n. begun_bytes n p.first p.second p.third) none

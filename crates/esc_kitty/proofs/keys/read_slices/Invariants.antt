@@ -4,7 +4,7 @@ use Rattle.esc_values.specs.Cuts.{Pairs, pairs_in}
 use Rattle.esc_kitty.specs.Keys.{pairs}
 use Rattle.esc_kitty.proofs.keys.read_slices.Given as goal
 
--- the pairs of the slices so far, and those of what is left
+-- the result has the pairs of the slices so far, and those of the rest
 abbrev pub invariant-loop-slice : goal.invariant-loop-slice
 invariant-loop-slice g l =
     pairs_in (map (λ p. p.now) l.slices)

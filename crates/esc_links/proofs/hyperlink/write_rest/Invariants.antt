@@ -4,7 +4,7 @@ use Rattle.std.specs.List.{flat_map}
 use Rattle.esc_values.specs.Cuts.{pair_text}
 use Rattle.esc_links.proofs.hyperlink.write_rest.Given as goal
 
--- some text was written, and it and what is left are the whole
+-- some text was written, and it and the rest are the whole
 abbrev pub invariant-loop-key : goal.invariant-loop-key
 invariant-loop-key g l = IsPlainFormatter l.initial.f
     → (done : List ℕ) × HasWritten g.W.Write.write_str_gives l.initial.f done l.f

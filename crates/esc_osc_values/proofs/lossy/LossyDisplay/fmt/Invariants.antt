@@ -4,7 +4,7 @@ use Rattle.std.specs.Str.Chunks.{utf8_chunks_rest}
 use Rattle.std.specs.Str.Lossy.{utf8_lossy}
 use Rattle.esc_osc_values.proofs.lossy.LossyDisplay.fmt.Given as goal
 
--- what was written, with the text of the bytes that are left, is the text of all the bytes
+-- the text that was written, with the text of the rest of the bytes, is the text of all the bytes
 abbrev pub invariant-loop-chunk : goal.invariant-loop-chunk
 invariant-loop-chunk g l =
     IsPlainFormatter l.initial.f → (done : List ℕ)
