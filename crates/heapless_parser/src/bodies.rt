@@ -13,7 +13,7 @@ ghost use Rattle.heapless_parser.specs.Takes.{AddsToBody, KeepsForm, NotesCsi, T
 
 use crate::escapes::note_noise;
 use crate::event::{CHARACTER, CONTROL, CSI, EscEntry, EscEvent, NONE};
-use crate::numbers::{CSI_STATE, MALFORMED, form_of, number_of_form};
+use crate::numbers::{CSI_STATE, GROUND, MALFORMED, form_of, number_of_form};
 use crate::parser::EscParser;
 use esc_frame::unfinished::csi_params::next_number;
 use esc_frame::unfinished::fields::put;
@@ -21,7 +21,7 @@ use esc_frame::utf8::sequence::lies_from;
 
 const MAX_NUMBER: u64 = 0x7fff_ffff_ffff_ffff;
 
-// One parameter more, where there is room for it.
+// Adds a parameter, if there is room for it.
 #[inline(always)]
 fn add(parser: &mut EscParser, entry: EscEntry)
     ensures first { (all : List Param) → ParamsIn parser.old all
@@ -59,7 +59,7 @@ fn close(parser: &mut EscParser)
     }
 }
 
-// The number of the run of digits at the end, or 0.
+// Returns the number of the run of digits at the end, or 0.
 #[inline(always)]
 fn number_so_far(parser: &EscParser) -> u64
     ensures value { (o : Option ℕ) → NumberIn parser.now o → result ≡ capped_at_i64 (number_at o) }
@@ -72,7 +72,7 @@ fn number_so_far(parser: &EscParser) -> u64
     }
 }
 
-// One digit more.
+// Adds a digit to the body.
 #[inline(always)]
 fn push_digit(parser: &mut EscParser, byte: u8)
     requires low { 0x30 ≤ byte }
@@ -84,7 +84,7 @@ fn push_digit(parser: &mut EscParser, byte: u8)
     parser.form = number_of_form(form_of(parser.form).next(byte));
 }
 
-// One byte more that is no digit.
+// Adds a byte that is no digit to the body.
 #[inline(always)]
 fn push_other(parser: &mut EscParser, byte: u8)
     requires { is_digit byte ≡ false }
@@ -100,7 +100,7 @@ fn push_other(parser: &mut EscParser, byte: u8)
     parser.form = number_of_form(form_of(parser.form).next(byte));
 }
 
-// One byte more.
+// Adds a byte to the body.
 #[inline(always)]
 fn push(parser: &mut EscParser, byte: u8)
     ensures { AddsToBody parser byte }
@@ -112,7 +112,7 @@ fn push(parser: &mut EscParser, byte: u8)
     }
 }
 
-// Copies so many parameters.
+// Copies the first `count` parameters.
 #[inline(always)]
 fn copy_params(csi_params: &mut [EscEntry], params: &[EscEntry], count: usize)
     requires room { count ≤ length csi_params.old }
@@ -131,7 +131,7 @@ fn end(parser: &mut EscParser, byte: u8, event: &mut EscEvent)
     ensures takes { TakesByte parser event byte true }
 {
     close(parser);
-    parser.state = 0;
+    parser.state = GROUND;
     parser.pending = 0;
     if parser.form == MALFORMED {
         return;

@@ -1,4 +1,4 @@
-//! What a byte does between sequences, and so where it breaks one off.
+//! Bytes between sequences, and bytes that break a sequence off, which do the same.
 #![tactic(auto)]
 
 ghost use Rattle.std.specs.Prelude.{◌≡◌, ◌⊎◌};
@@ -9,21 +9,22 @@ ghost use Rattle.heapless_parser.specs.Emitted.{queued_of};
 ghost use Rattle.heapless_parser.specs.Takes.{IsSingleChange, KeepsAfter, Makes, NotesSingle};
 
 use crate::event::{CHARACTER, CONTROL, EscEvent, NONE};
+use crate::numbers::GROUND;
 use crate::openers::{escape, open_kind};
 use crate::parser::EscParser;
 use esc_frame::classes::{Breaker, Class, classify};
 
-/// A character or a control, by the kind of its event, or nothing: `NONE`.
+/// A character or a control, with the kind of its event; or nothing, with the kind `NONE`.
 #[derive(Clone, Copy)]
 pub struct Single {
     pub kind: u32,
     pub value: u32,
 }
 
-/// The character that is handed out for bytes that are no UTF-8.
+/// The character that stands for bytes that are no UTF-8.
 pub const REPLACEMENT: u32 = 0xfffd;
 
-/// Takes a byte as between sequences, and returns what it gives.
+/// Takes a byte as between sequences, and returns its character or its control.
 #[inline(always)]
 pub fn in_ground(parser: &mut EscParser, byte: u8) -> Single
     ensures kept { KeepsAfter parser.new (ground_move byte (class_of byte)) }
@@ -31,7 +32,7 @@ pub fn in_ground(parser: &mut EscParser, byte: u8) -> Single
     ensures kind { (result.kind ≡ NONE) ⊎ (result.kind ≡ CHARACTER) ⊎ (result.kind ≡ CONTROL) }
     ensures queued { IsDueAs parser.new parser.old }
 {
-    parser.state = 0;
+    parser.state = GROUND;
     parser.pending = 0;
     let (kind, value) = match classify(byte) {
         Class::Breaks(Breaker::Escape) => {
@@ -62,7 +63,7 @@ pub fn in_ground(parser: &mut EscParser, byte: u8) -> Single
     Single { kind, value }
 }
 
-/// Takes a byte as between sequences, and notes what it gives.
+/// Takes a byte as between sequences, and notes its event.
 #[inline(always)]
 pub fn cancel(parser: &mut EscParser, byte: u8, event: &mut EscEvent)
     ensures moves { Makes parser event.new (ground_move byte (class_of byte)) }
@@ -73,7 +74,7 @@ pub fn cancel(parser: &mut EscParser, byte: u8, event: &mut EscEvent)
     event.byte = single.value;
 }
 
-/// Takes the last byte of a C1 control in UTF-8, and notes what it gives.
+/// Takes the last byte of a C1 control in UTF-8, and notes its event.
 #[inline(never)]
 pub fn note_pair(parser: &mut EscParser, byte: u8, event: &mut EscEvent)
     requires { event.old.kind ≡ NONE }
@@ -81,7 +82,7 @@ pub fn note_pair(parser: &mut EscParser, byte: u8, event: &mut EscEvent)
     ensures kind { (event.new.kind ≡ NONE) ⊎ (event.new.kind ≡ CONTROL) }
     ensures same { IsSingleChange event.new event.old }
 {
-    parser.state = 0;
+    parser.state = GROUND;
     parser.pending = 0;
     match classify(byte) {
         Class::Breaks(Breaker::C1) => {

@@ -13,7 +13,7 @@ ghost use Rattle.heapless_parser.specs.Takes.{Appends, NotesText, TakesEnd, Take
 
 use crate::characters::put_pending;
 use crate::event::{APC, EscEvent, OSC};
-use crate::numbers::{APC_STATE, OSC_STATE, pending_in};
+use crate::numbers::{APC_STATE, GROUND, OSC_STATE, pending_in};
 use crate::openers::escape;
 use crate::parser::EscParser;
 use crate::strings::put_text;
@@ -21,8 +21,8 @@ use esc_frame::classes::{Class, classify};
 use esc_frame::runs::scans::{ascii_run, units_run};
 use esc_frame::utf8::sequence::{Outcome, Pending};
 
-/// Appends to the text that is kept, or notes that it is past the limit. False where the numbers
-/// are no parser's, and then nothing changes.
+/// Appends to the kept text, or notes that it is past the limit. If the numbers are no parser's,
+/// returns false and changes nothing.
 #[inline(always)]
 pub fn append(parser: &mut EscParser, memory: &mut [u8], text: &[u8]) -> bool
     ensures { Appends parser memory text.now result }
@@ -44,7 +44,7 @@ pub fn append(parser: &mut EscParser, memory: &mut [u8], text: &[u8]) -> bool
     true
 }
 
-// The last byte of a character, of which these came before.
+// Appends a character: the bytes that came before, and its last byte.
 fn append_character(parser: &mut EscParser, memory: &mut [u8], pending: Pending, byte: u8) -> bool
     ensures { Appends parser memory (prefix_of pending ++ byte ∷ []) result }
 {
@@ -56,8 +56,8 @@ fn append_character(parser: &mut EscParser, memory: &mut [u8], pending: Pending,
     }
 }
 
-// Takes a byte of a character, the first or a later one. False where the byte is none, or ends a
-// control, and then nothing changes.
+// Takes a byte of a character, the first or a later one. If the byte is none, or ends a control,
+// returns false and changes nothing.
 #[inline(never)]
 fn note_wide(parser: &mut EscParser, memory: &mut [u8], byte: u8) -> bool
     requires { parser.old.state ≡ OSC_STATE }
@@ -90,8 +90,8 @@ fn note_units(parser: &mut EscParser, memory: &mut [u8], text: &[u8]) -> bool
     append(parser, memory, text)
 }
 
-// Hands out the text, where BEL ends it, or an ESC, which begins the next sequence. False where the
-// byte is another one, or the text is past the limit, and then nothing changes.
+// Hands out the text at the BEL that ends it, or at an ESC, which begins the next sequence. If the
+// byte is another one, or the text is past the limit, returns false and changes nothing.
 #[inline(always)]
 fn end(
     parser: &mut EscParser,
@@ -109,7 +109,7 @@ fn end(
         return false;
     }
     if byte == 0x07 {
-        parser.state = 0;
+        parser.state = GROUND;
     } else if byte == 0x1b {
         escape(parser);
     } else {
@@ -120,7 +120,7 @@ fn end(
 }
 
 /// Takes the text of an operating system command that comes first, a byte of a character in it, or
-/// the byte that ends it; nothing where something else comes, or the text is past the limit.
+/// the byte that ends it. If something else comes, or the text is past the limit, it takes nothing.
 #[inline(always)]
 pub fn note_in_osc(
     parser: &mut EscParser,
@@ -152,7 +152,7 @@ pub fn note_in_osc(
     }
 }
 
-// Whether the byte is passed over in an operating system command.
+// Returns whether the byte is ignored in an operating system command.
 #[inline(always)]
 fn skips_in_osc(parser: &EscParser, byte: u8) -> bool
     requires { parser.now.state ≡ OSC_STATE }
@@ -184,8 +184,8 @@ fn note_text(parser: &mut EscParser, memory: &mut [u8], text: &[u8]) -> bool
     append(parser, memory, text)
 }
 
-// Hands out the text, where an ESC ends it. False where the text is past the limit, and then
-// nothing changes.
+// Hands out the text at the ESC that ends it. If the text is past the limit, returns false and
+// changes nothing.
 #[inline(always)]
 fn end_apc(
     parser: &mut EscParser,
@@ -208,7 +208,7 @@ fn end_apc(
     true
 }
 
-// Whether the byte is passed over in an application program command.
+// Returns whether the byte is ignored in an application program command.
 #[inline(always)]
 fn skips_in_apc(parser: &EscParser, byte: u8) -> bool
     requires { parser.now.state ≡ APC_STATE }
@@ -225,9 +225,9 @@ fn skips_in_apc(parser: &EscParser, byte: u8) -> bool
     }
 }
 
-/// Takes the text of an application program command that comes first, a byte that is passed over in
-/// it, or the ESC that ends it; nothing where another control ends it, or the text is past the
-/// limit.
+/// Takes the text of an application program command that comes first, a byte that is ignored in it,
+/// or the ESC that ends it. If another control ends it, or the text is past the limit, it takes
+/// nothing.
 #[inline(never)]
 pub fn note_in_apc(
     parser: &mut EscParser,

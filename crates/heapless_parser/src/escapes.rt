@@ -9,13 +9,13 @@ ghost use Rattle.heapless_parser.specs.Takes.{NotesSingle, TakesByte};
 
 use crate::breaks::cancel;
 use crate::event::{CHARACTER, CONTROL, ESCAPE, EscEvent, NONE};
-use crate::numbers::{CSI_STATE, ESCAPED};
+use crate::numbers::{CSI_STATE, ESCAPED, GROUND};
 use crate::openers::open_kind;
 use crate::parser::EscParser;
 use esc_frame::classes::{Class, Kind, classify};
 
-/// Takes a control or another byte that is no part of a sequence in the middle of one, or a byte
-/// that breaks it off. False where the byte is none of these, and then nothing changes.
+/// Takes, in the middle of a sequence, a control or another byte that is no part of it, or a byte
+/// that breaks it off. If the byte is none of these, returns false and changes nothing.
 #[inline(never)]
 pub fn note_noise(parser: &mut EscParser, byte: u8, event: &mut EscEvent) -> bool
     requires state { (parser.old.state ≡ ESCAPED) ⊎ (parser.old.state ≡ CSI_STATE) }
@@ -38,7 +38,7 @@ pub fn note_noise(parser: &mut EscParser, byte: u8, event: &mut EscEvent) -> boo
     }
 }
 
-// The letter after an ESC alone that opens a sequence or a string.
+// Takes the letter after an ESC alone that opens a sequence or a string.
 #[inline(always)]
 fn open_after(parser: &mut EscParser, byte: u8, kind: Kind)
     requires { OpensInEscape parser.old byte kind }
@@ -48,7 +48,7 @@ fn open_after(parser: &mut EscParser, byte: u8, kind: Kind)
     open_kind(parser, kind);
 }
 
-/// Keeps one intermediate more, if it is one of the first two.
+/// Keeps an intermediate, if it is one of the first two.
 #[inline(always)]
 pub fn push_intermediate(parser: &mut EscParser, byte: u8)
     ensures first { (x : List ℕ) → FirstIn parser.old x → FirstIn parser.new (x ++ byte ∷ []) }
@@ -66,7 +66,7 @@ pub fn push_intermediate(parser: &mut EscParser, byte: u8)
     }
 }
 
-// The final byte of an escape sequence.
+// Takes the final byte of an escape sequence.
 #[inline(always)]
 fn dispatch(parser: &mut EscParser, byte: u8, event: &mut EscEvent)
     requires { EndsEscape parser.old byte }
@@ -85,7 +85,7 @@ fn dispatch(parser: &mut EscParser, byte: u8, event: &mut EscEvent)
     event.intermediates = parser.intermediates;
     event.kept = parser.kept.min(2);
     event.has_more = parser.has_more;
-    parser.state = 0;
+    parser.state = GROUND;
     parser.pending = 0;
 }
 

@@ -14,14 +14,15 @@ use crate::breaks::cancel;
 use crate::commands::append;
 use crate::escapes::push_intermediate;
 use crate::event::{CHARACTER, CONTROL, DCS, EscEvent, NONE};
-use crate::numbers::{HEADER_STATE, MALFORMED, form_of, number_of_form};
+use crate::numbers::{DATA_STATE, HEADER_STATE, IGNORED_STATE, MALFORMED, form_of, number_of_form};
 use crate::parser::EscParser;
 use crate::strings::put_text;
 use esc_frame::classes::{Class, classify};
 use esc_frame::unfinished::header::is_parameter;
 use esc_frame::utf8::sequence::lies_from;
 
-// The form of a header with a byte more: that of a control sequence's body, but without 3A.
+// Returns the form of a header after one more byte. It is that of a control sequence's body, but
+// without 3A.
 #[inline(always)]
 fn next_form(form: u32, byte: u8) -> u32
     ensures { form_numbered result
@@ -34,7 +35,7 @@ fn next_form(form: u32, byte: u8) -> u32
     }
 }
 
-// One parameter byte more. False where the numbers are no parser's, and then nothing changes.
+// Adds a parameter byte. If the numbers are no parser's, returns false and changes nothing.
 #[inline(always)]
 fn push_parameter(parser: &mut EscParser, memory: &mut [u8], byte: u8) -> bool
     requires { is_dcs_parameter byte ≡ true }
@@ -47,7 +48,7 @@ fn push_parameter(parser: &mut EscParser, memory: &mut [u8], byte: u8) -> bool
     true
 }
 
-// One other byte more.
+// Adds a byte that is no parameter byte.
 #[inline(always)]
 fn push_other(parser: &mut EscParser, byte: u8)
     requires { is_dcs_parameter byte ≡ false }
@@ -61,7 +62,7 @@ fn push_other(parser: &mut EscParser, byte: u8)
     parser.form = next_form(parser.form, byte);
 }
 
-// One byte more of 20 to 3F.
+// Adds a byte of 20 to 3F.
 #[inline(always)]
 fn push(parser: &mut EscParser, memory: &mut [u8], byte: u8) -> bool
     requires state { parser.old.state ≡ HEADER_STATE }
@@ -76,7 +77,7 @@ fn push(parser: &mut EscParser, memory: &mut [u8], byte: u8) -> bool
     }
 }
 
-// Copies what is kept of a header to an event.
+// Copies the kept part of a header to an event.
 #[inline(always)]
 fn put_header(parser: &EscParser, byte: u8, event: &mut EscEvent)
     ensures event { event.new ≡ record event.old {
@@ -93,7 +94,8 @@ fn put_header(parser: &EscParser, byte: u8, event: &mut EscEvent)
     event.has_more = parser.has_more;
 }
 
-// The final byte of a header. False where it is past the limit, and then nothing changes.
+// Takes the final byte of a header. If the header is past the limit, returns false and changes
+// nothing.
 #[inline(never)]
 fn end(
     parser: &mut EscParser,
@@ -112,17 +114,17 @@ fn end(
         return false;
     }
     if parser.form == MALFORMED {
-        parser.state = 6;
+        parser.state = IGNORED_STATE;
         return true;
     }
     put_text(out, event, DCS, &memory[..count]);
     put_header(parser, byte, event);
-    parser.state = 5;
+    parser.state = DATA_STATE;
     true
 }
 
-/// Takes a byte of a header, or one that breaks the string off. False where it ends a header that
-/// is past the limit, and then nothing changes.
+/// Takes a byte of a header, or one that breaks the string off. If it ends a header that is past
+/// the limit, returns false and changes nothing.
 #[inline(never)]
 pub fn note_in_header(
     parser: &mut EscParser,

@@ -1,4 +1,4 @@
-//! What begins a sequence or a string, where its bytes come in chunks.
+//! Openers of a sequence or a string whose bytes come in chunks.
 #![tactic(auto)]
 
 ghost use Rattle.std.specs.Prelude.{◌≡◌, ℕ, List, false};
@@ -7,23 +7,25 @@ ghost use Rattle.esc_frame.specs.Segments.{Opener};
 ghost use Rattle.heapless_parser.specs.Runs.{IsDueAs};
 ghost use Rattle.heapless_parser.specs.States.{KeptIn};
 
-use crate::numbers::{ESCAPED, GROUND};
+use crate::numbers::{
+    APC_STATE, CSI_STATE, ESCAPED, GROUND, HEADER_STATE, IGNORED_STATE, OSC_STATE,
+};
 use crate::parser::EscParser;
 use esc_frame::classes::Kind;
 
-/// An ESC of which nothing more has come.
+/// Begins an escape sequence.
 #[inline(always)]
 pub fn escape(parser: &mut EscParser)
     ensures state { (parser.new.state ≡ ESCAPED) × (parser.new.kept ≡ 0)
         × (parser.new.has_more ≡ false) }
     ensures queued { IsDueAs parser.new parser.old }
 {
-    parser.state = 1;
+    parser.state = ESCAPED;
     parser.kept = 0;
     parser.has_more = false;
 }
 
-/// What this kind of opener opens.
+/// Begins a sequence or a string of this kind.
 #[inline(always)]
 pub fn open_kind(parser: &mut EscParser, kind: Kind)
     ensures queued { IsDueAs parser.new parser.old }
@@ -38,18 +40,18 @@ pub fn open_kind(parser: &mut EscParser, kind: Kind)
             parser.count = 0;
             parser.is_truncated = false;
             parser.is_open = false;
-            parser.state = 2;
+            parser.state = CSI_STATE;
         }
         Kind::Osc => {
             parser.pending = 0;
-            parser.state = 3;
+            parser.state = OSC_STATE;
         }
         Kind::Dcs => {
             parser.kept = 0;
             parser.has_more = false;
-            parser.state = 4;
+            parser.state = HEADER_STATE;
         }
-        Kind::Sos | Kind::Pm => parser.state = 6,
-        Kind::Apc => parser.state = 7,
+        Kind::Sos | Kind::Pm => parser.state = IGNORED_STATE,
+        Kind::Apc => parser.state = APC_STATE,
     }
 }

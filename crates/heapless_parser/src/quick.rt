@@ -14,14 +14,14 @@ use crate::runs::plain_text;
 use esc_frame::unfinished::fields::read_body;
 use esc_frame::utf8::sequence::lies_from;
 
-/// Notes the control, or the short control sequence, whole in the bytes, that comes first in
-/// ground; nothing where something else comes.
+/// Notes the control, or the short control sequence whole in the bytes, that comes first in ground.
+/// If something else comes, it takes nothing.
 #[inline(always)]
 pub fn note_quick(parser: &EscParser, bytes: &[u8], event: &mut EscEvent) -> usize
     requires { AskedWithin event.old bytes.now (event.old.count ≤ 256) }
     ensures { NotesInGround parser.now event bytes.now result }
 {
-    if parser.state != 0 || parser.pending != 0 {
+    if parser.state != GROUND || parser.pending != 0 {
         return 0;
     }
     if bytes[0] >= 0x20 {
@@ -35,8 +35,8 @@ pub fn note_quick(parser: &EscParser, bytes: &[u8], event: &mut EscEvent) -> usi
     }
 }
 
-/// Notes the run of bytes 20 to 7F, or the control, that comes first in ground, of many bytes or of
-/// few; nothing where something else comes.
+/// Notes the run of bytes 20 to 7F, or the control, that comes first in ground. If something else
+/// comes, it takes nothing. `few` says that the bytes are looked at one by one.
 #[inline(always)]
 pub fn note_plain(bytes: &[u8], event: &mut EscEvent, few: bool) -> usize
     requires some { 0 < length bytes.now }
@@ -54,7 +54,7 @@ pub fn note_plain(bytes: &[u8], event: &mut EscEvent, few: bool) -> usize
     run
 }
 
-// An event without parameters and intermediates.
+// Notes an event without parameters and intermediates.
 #[inline(always)]
 fn put_plain(event: &mut EscEvent, kind: u32, run: usize, byte: u8)
     ensures kind { (event.new.kind ≡ kind) × (event.new.byte ≡ byte) }
@@ -69,8 +69,8 @@ fn put_plain(event: &mut EscEvent, kind: u32, run: usize, byte: u8)
     event.count = 0;
 }
 
-/// A control sequence of few parameters: of a common form, or of any. They are written where the
-/// event keeps them, also where it turns out to be none.
+/// Notes a control sequence of at most 32 parameters: if `any`, one of any form, else one of a
+/// common form. It writes the parameters to the event, even if it then takes nothing.
 #[inline(always)]
 pub fn note_csi(bytes: &[u8], event: &mut EscEvent, any: bool) -> usize
     requires escape { slice_index bytes.now 0 ≡ 0x1b }
@@ -92,7 +92,7 @@ pub fn note_csi(bytes: &[u8], event: &mut EscEvent, any: bool) -> usize
     }
 }
 
-// The final byte of a control sequence whose parameters, so many, were written.
+// Notes the final byte of a control sequence whose `count` parameters were written.
 #[inline(always)]
 fn end_csi(event: &mut EscEvent, count: usize, byte: u8)
     ensures said { (out : List ℕ) → sent_events event.new out

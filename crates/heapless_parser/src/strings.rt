@@ -27,8 +27,8 @@ pub fn put_text(out: &mut [u8], event: &mut EscEvent, kind: u32, text: &[u8])
     event.kind = kind;
 }
 
-// An operating system command that ends by BEL, or by an ESC, which begins the next sequence. A
-// text for which there is no room is left to the machine.
+// Notes an operating system command that BEL ends, or an ESC, which begins the next sequence. A
+// text that has no room is left to the machine.
 #[inline(never)]
 fn note_osc(
     parser: &mut EscParser,
@@ -59,7 +59,7 @@ fn note_osc(
     }
 }
 
-// The final byte of an escape sequence without intermediates, where it opens nothing.
+// Takes the final byte of an escape sequence without intermediates, if it opens nothing.
 #[inline(always)]
 fn note_final(parser: &mut EscParser, bytes: &[u8], event: &mut EscEvent) -> usize
     requires { FedIn ESCAPED parser.old bytes.now }
@@ -73,7 +73,7 @@ fn note_final(parser: &mut EscParser, bytes: &[u8], event: &mut EscEvent) -> usi
     }
     if closes_escape(classify(bytes[0])) {
         put_final(event, bytes[0]);
-        parser.state = 0;
+        parser.state = GROUND;
         parser.pending = 0;
         1
     } else {
@@ -81,7 +81,7 @@ fn note_final(parser: &mut EscParser, bytes: &[u8], event: &mut EscEvent) -> usi
     }
 }
 
-// Whether a byte of this class ends an escape sequence of an ESC alone.
+// Returns whether a byte of this class ends an escape sequence of an ESC alone.
 #[inline(always)]
 fn closes_escape(class: Class) -> bool
     ensures { result ≡ closes_escape class }
@@ -99,7 +99,7 @@ fn closes_escape(class: Class) -> bool
     }
 }
 
-// An escape sequence of an ESC and this byte.
+// Notes an escape sequence of an ESC and this byte.
 #[inline(always)]
 fn put_final(event: &mut EscEvent, byte: u8)
     ensures { PutsEscape [] false byte event }
@@ -111,7 +111,7 @@ fn put_final(event: &mut EscEvent, byte: u8)
 }
 
 /// Notes the command that lies whole in the bytes, or the final byte of an escape sequence, that
-/// comes first; nothing where something else comes.
+/// comes first. If something else comes, it takes nothing.
 #[inline(always)]
 pub fn note_string(
     parser: &mut EscParser,
@@ -126,10 +126,10 @@ pub fn note_string(
         (Notes parser.old parser.new event.new out.new limit) }
     ensures noted { NotesSequence event.new (length out.old) (0 < result) }
 {
-    if parser.state == 1 {
+    if parser.state == ESCAPED {
         return note_final(parser, bytes, event);
     }
-    if parser.state != 0 || parser.pending != 0 || bytes.len() <= 2 {
+    if parser.state != GROUND || parser.pending != 0 || bytes.len() <= 2 {
         return 0;
     }
     if bytes[0] == 0x1b && bytes[1] == b']' {

@@ -3,7 +3,7 @@ use Rattle.heapless_parser.specs.States.{lower, upper}
 use Rattle.heapless_parser.specs.Emitted.{queued_of, is_run}
 use Rattle.heapless_parser.proofs.InChunks.ControlsAhead.{event_emits}
 use Rattle.heapless_parser.proofs.InChunks.SeveralStepsAreOne.{at_first}
-use Rattle.heapless_parser.proofs.next.next_of_sequence.Goals as goal
+use Rattle.heapless_parser.proofs.next.next_at_escape.Goals as goal
 
 pub returns-then-taken-gt0-clause-holds : goal.returns-then-taken-gt0-clause-holds
 returns-then-taken-gt0-clause-holds c = record {
@@ -20,7 +20,7 @@ returns-then-taken-gt0-clause-holds c = record {
       let csi = c.note_csi-taken.ensures in
       let some = c.if-taken-gt0.true in
       let plain = c.requires.plain in
-      at_first s bs n es p memory e out (csi.notes.within.2 ∙ c.settle.ensures.0)
+      at_first s bs n es p memory e out (csi.notes.within.2)
       (ap (λ k. queued_of k p.queued_value) plain.1)
       (event_emits p e (take n bs) plain.2 plain.3 (ap is_run (csi.some some).0)
       (csi.notes.emits some) out

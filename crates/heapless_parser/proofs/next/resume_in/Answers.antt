@@ -5,7 +5,7 @@ use Rattle.std.proofs.lemmas.Bool.{false≢true}
 use Rattle.heapless_parser.specs.States.{HasConsumed}
 use Rattle.heapless_parser.specs.Emitted.{queued_of}
 use Rattle.heapless_parser.proofs.InChunks.SeveralStepsAreOne.{adds_fewer, at_more, at_queued, kept_at, says_nothing}
-use Rattle.heapless_parser.proofs.next.next_in.Goals as goal
+use Rattle.heapless_parser.proofs.next.resume_in.Goals as goal
 
 pub returns-then-give_queued-clause-holds : goal.returns-then-give_queued-clause-holds
 returns-then-give_queued-clause-holds c = record {
@@ -35,19 +35,16 @@ returns-clause-holds c = record {
       (c.give_queued.ensures.emitted c.args.out.now [])
       ∙ says_nothing c.give_queued.new.event c.args.out.now _
       (c.give_queued.ensures.none c.if-give_queued.false) in
-      at_more s c.args.bytes.now c.next_event.result es c.args.parser.now c.next_event.new.parser
-      c.args.memory.now c.next_event.new.memory _ c.next_event.auto.memory
-      (c.next_event.ensures.goes_on ne ∙ c.give_queued.ensures.failed) was
-      (λ u k. c.next_event.ensures.kept u
-      (c.give_queued.ensures.kept c.args.memory.now u k) ne)
-      (λ u k. c.next_event.ensures.says u
-      (c.give_queued.ensures.kept c.args.memory.now u k) ne)
-      h;
+      let t = c.advance_to_event in
+      at_more s c.args.bytes.now t.result es c.args.parser.now t.new.parser c.args.memory.now
+      t.new.memory _ t.auto.memory (t.ensures.goes_on ne ∙ c.give_queued.ensures.failed) was
+      (λ u k. t.ensures.kept u (c.give_queued.ensures.kept c.args.memory.now u k) ne)
+      (λ u k. t.ensures.says u (c.give_queued.ensures.kept c.args.memory.now u k) ne) h;
   all = search rules;
   moves = search rules;
   limited = λ s es h k.
-      adds_fewer (length c.args.memory.now) s (take c.next_event.result c.args.bytes.now)
-      (c.next_event.ensures.limited (after_all Ground s)
+      adds_fewer (length c.args.memory.now) s (take c.advance_to_event.result c.args.bytes.now)
+      (c.advance_to_event.ensures.limited (after_all Ground s)
       (c.give_queued.ensures.kept c.args.memory.now (after_all Ground s)
       (kept_at s es c.args.parser.now c.args.memory.now h)) k);
   failed = search rules;
@@ -61,4 +58,4 @@ returns-then-parser-clause-sound c = λ less s es h. absurd (false≢true (sym h
 pub returns-clause-sound : goal.returns-clause-sound
 unfolding HasConsumed
 returns-clause-sound c = λ less s es h.
-    c.next_event.ensures.sound _ (c.give_queued.ensures.kept c.args.memory.now _ h.1) less
+    c.advance_to_event.ensures.sound _ (c.give_queued.ensures.kept c.args.memory.now _ h.1) less
