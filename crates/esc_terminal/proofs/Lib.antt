@@ -1,4 +1,6 @@
+pub mod Chained
 pub mod Once
+pub mod Placed
 pub mod LinksKept
 pub mod Kept
 pub mod Runs

@@ -151,7 +151,7 @@ flags_is a b h =
       overline = x;
     }) (same_bool a.overline b.overline v.1))
 
-look_is : (a b : Look) → same_look a b ≡ true → a ≡ b
+pub look_is : (a b : Look) → same_look a b ≡ true → a ≡ b
 look_is a b h =
     let s = and_parts _ (same_color a.underline_color b.underline_color) h in
     let r = and_parts _ (same_color a.background b.background) s.0 in
@@ -175,27 +175,7 @@ look_is a b h =
     ∙ ap (λ x. record b { underline_color = x })
     (color_is a.underline_color b.underline_color s.1)
 
--- ---- places
-
--- the one before is another
-differs : (k : Look) (ks : List Look) (n : ℕ) (l d : Look) → IsNew k ks → n < length ks
-    → same_look (get_or ks n d) l ≡ true → same_look k l ≡ false
-differs k [] n l d new less h = absurd (omega (arith, less))
-differs k (j ∷ ks) zero l d new less h =
-    subst (λ x. same_look k x ≡ false) (look_is j l h) new.0
-differs k (j ∷ ks) (suc n) l d new less h = differs k ks n l d new.1 (omega (arith, less)) h
-
-next_is : (m n : ℕ) → m ≡ n → m + 1 ≡ suc n
-next_is m n h = omega (arith, h)
-
-pub place_is : (ks : List Look) (n : ℕ) (l d : Look) → IsOnce ks → n < length ks
-    → same_look (get_or ks n d) l ≡ true → place_of l ks ≡ n
-place_is [] n l d once less h = absurd (omega (arith, less))
-place_is (k ∷ ks) zero l d once less h = ap (λ b. if b then 0 else place_of l ks + 1) h
-place_is (k ∷ ks) (suc n) l d once less h =
-    ap (λ b. if b then 0 else place_of l ks + 1)
-    (differs k ks n l d once.0 (omega (arith, less)) h)
-    ∙ next_is (place_of l ks) n (place_is ks n l d once.1 (omega (arith, less)) h)
+-- ---- one more
 
 new_push : (k : Look) (ks : List Look) (l : Look) → IsNew k ks → same_look k l ≡ false
     → IsNew k (ks ++ l ∷ [])

@@ -1,5 +1,7 @@
 pub mod Looks
 pub mod Links
+pub mod Chains
+pub mod Slots
 pub mod Steps
 pub mod Requests
 pub mod Streams

@@ -1,10 +1,13 @@
 -- The links of a screen, and the numbers of looks that lead somewhere.
-use Rattle.std.specs.Prelude.{ℕ, ◌+◌, ◌-◌, ◌==◌, nat_eq, nat_le, nat_lt, ◌&&◌, Bool, if◌then◌else◌, List, [], ◌∷◌, ◌++◌, length, map, get_or, Option, Some, None}
+use Rattle.std.specs.Prelude.{ℕ, ◌+◌, ◌-◌, ◌==◌, nat_eq, nat_le, nat_lt, ◌&&◌, Bool, false, if◌then◌else◌, List, [], ◌∷◌, ◌++◌, length, map, get_or, Option, Some, None}
 use Rattle.std.specs.Cmp.Lexicographic.{pointwise}
+use Rattle.std.specs.Option.{option_map}
 use Rattle.std.specs.Str.{bytes_eq}
+use Rattle.esc_links.specs.Hyperlinks.{link_in}
 use Rattle.esc_links.specs.declared.hyperlink.Hyperlink.{Hyperlink}
 use Rattle.esc_osc.specs.declared.command.OperatingSystemCommand.{OperatingSystemCommand}
 use Rattle.esc_osc.specs.declared.command.OperatingSystemCommand.TheVariants as command
+use Rattle.esc_values.specs.Clear.{joined}
 use Rattle.esc_values.specs.Cuts.{Pairs}
 use Rattle.esc_style.specs.Looks.{plain_look}
 use Rattle.esc_style.specs.declared.look.Look.{Look}
@@ -132,8 +135,8 @@ pub record Known : Type 0 where
 abbrev pub known_of : {A : Type 0} → Styles A → Known
 known_of p = record {
   looks = p.looks;
-  links = map target p.links.items;
-  linked = p.linked.items;
+  links = map target p.links;
+  linked = p.linked;
 }
 
 -- at first
@@ -185,7 +188,26 @@ abbrev pub number_by_lead : Option Target → ℕ → Known → ℕ
 number_by_lead t n k =
     linked_number (look_number n k.linked) (lead_number t k.links) k.linked
 
+-- the digit 8 alone
+abbrev pub is_link_code : List ℕ → Bool
+is_link_code (n ∷ []) = n == 0x38
+is_link_code _ = false
+
+-- the link of parameters and the parts of an address, between which there is a `;`
+abbrev pub link_with : {A : Type 0} → List ℕ → List (List ℕ) → Option (Option (Hyperlink A))
+link_with es [] = None
+link_with es (u ∷ us) = link_in es (joined (u ∷ us))
+
+-- the link of a command of these parts that has no other reading
+abbrev pub link_in_parts : {A : Type 0} → List (List ℕ) → Option (Option (Hyperlink A))
+link_in_parts (p ∷ es ∷ us) = if is_link_code p then link_with es us else None
+link_in_parts _ = None
+
+abbrev pub lead_in_parts : Type 0 → List (List ℕ) → Option (Option Target)
+lead_in_parts A ps = option_map lead_of (link_in_parts {A = A} ps)
+
 -- OSC 8: where the characters lead that come after a command, if it says that
 abbrev pub lead_in : {A : Type 0} → OperatingSystemCommand A → Option (Option Target)
 lead_in (command.SetHyperlink h) = Some (lead_of h)
+lead_in {A = A} (command.Unspecified ps) = lead_in_parts A ps
 lead_in _ = None

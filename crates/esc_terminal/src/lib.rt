@@ -10,15 +10,19 @@
 //! ```
 #![tactic(auto)]
 
+mod chains;
 mod counts;
 mod keeping;
 pub mod laws;
+mod link_parts;
+mod linked;
 mod links;
 mod looks;
 mod receiving;
 pub mod request;
 pub mod row_text;
 pub mod rows;
+mod slots;
 mod state;
 pub mod steps;
 pub mod styles;

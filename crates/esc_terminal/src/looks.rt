@@ -1,9 +1,13 @@
 //! The looks of a screen, which its cells have the numbers of.
-ghost use Rattle.std.specs.Prelude.{◌≡◌, ◌<◌, [], ◌∷◌, OnErr, OnOk, IfOk};
+ghost use Rattle.std.specs.Prelude.{◌≡◌, ◌<◌, [], ◌∷◌, ◌++◌, get_or, if◌then◌else◌, length, map, OnErr, OnOk, IfOk};
+ghost use Rattle.esc_sgr.specs.Sgr.{same_look};
 ghost use Rattle.esc_style.specs.Looks.{plain_look};
-ghost use Rattle.esc_terminal.specs.Looks.{IsOnce, erased_look, look_at, number_in, place_of, with_look};
+ghost use Rattle.esc_terminal.specs.Looks.{erased_look, look_at, number_in, place_of, with_look};
+ghost use Rattle.esc_terminal.specs.Slots.{look_slot};
 ghost use Rattle.fallible_alloc.specs.Refusals.{Refused};
 
+use crate::chains::Chains;
+use crate::slots::look_slot;
 use esc_sequences::Underline;
 use esc_sgr::is_same;
 use esc_style::{Color, Look};
@@ -13,27 +17,25 @@ use std::marker::Model;
 /// How many looks are kept.
 pub(crate) const MOST_LOOKS: usize = 0x1000;
 
-// How many places are remembered.
-const SLOTS: usize = 128;
-
 /// The looks that came, each once, in the order in which they came. Contracts see these.
 #[derive(Drop)]
 pub(crate) struct Looks<A: Allocator = Global> {
     all: Vec<Look, A>,
-    // The places of looks that were asked for, each in the slot of its look.
-    recent: [u16; SLOTS],
+    // their slots
+    places: Chains<A>,
 }
 
 impl<A: Allocator> Model for Looks<A> {
-    ghost use Rattle.std.specs.Prelude.{List};
+    ghost use Rattle.std.specs.Prelude.{◌≡◌, List, map};
     ghost use Rattle.esc_style.specs.declared.look.Look.{Look as TheLook};
     ghost use Rattle.esc_terminal.specs.Looks.{IsOnce};
+    ghost use Rattle.esc_terminal.specs.Slots.{look_slot};
 
     ghost Value = { List TheLook };
 
     ghost view = { λ p. p.all.items };
 
-    ghost invariant = { λ p. IsOnce p.all.items };
+    ghost invariant = { λ p. IsOnce p.all.items × (p.places ≡ map look_slot p.all.items) };
 }
 
 impl<A: Allocator + Copy> Looks<A> {
@@ -42,12 +44,12 @@ impl<A: Allocator + Copy> Looks<A> {
         ensures plain { IfOk result (λ p. p ≡ plain_look ∷ []) }
         ensures refused { OnErr result (Refused A) }
     {
+        let plain = Look::plain();
         let mut all = Vec::new(alloc);
-        fallible_alloc::push(&mut all, Look::plain())?;
-        Ok(Looks {
-            all,
-            recent: [0; SLOTS],
-        })
+        fallible_alloc::push(&mut all, plain)?;
+        let mut places = Chains::new(alloc)?;
+        places.push(look_slot(&plain))?;
+        Ok(Looks { all, places })
     }
 }
 
@@ -63,22 +65,34 @@ impl<A: Allocator> Looks<A> {
     }
 
     /// The number of a look, which is kept.
-    #[tactic(auto, using(crate::proofs::Once::once_push))]
     pub fn keep(&mut self, look: &Look) -> Result<u16, AllocError>
         ensures number { IfOk result (λ n. n ≡ number_in look.now self.old) }
         ensures looks { OnOk result (self.new ≡ with_look look.now self.old) }
         ensures refused { OnErr result (Refused A) }
     {
-        let slot = slot_of(look);
-        let place = place_near(&self.all, self.recent[slot] as usize, look);
+        let place = place_of(&self.all, &self.places, look);
         if place >= MOST_LOOKS {
             return Ok(0);
         }
         if place == self.all.len() {
-            fallible_alloc::push(&mut self.all, *look)?;
+            self.add(look)?;
         }
-        self.recent[slot] = place as u16;
         Ok(place as u16)
+    }
+
+    // Adds a look that is not there.
+    fn add(&mut self, look: &Look) -> Result<(), AllocError>
+        requires new { place_of look.now self.old ≡ length self.old }
+        requires room { length self.old < 0x1000 }
+        ensures ok { OnOk result (self.new ≡ self.old ++ look.now ∷ []) }
+        ensures refused { OnErr result (Refused A) }
+    {
+        fallible_alloc::push(&mut self.all, *look)?;
+        let result = self.places.push(look_slot(look));
+        if result.is_err() {
+            self.all.pop();
+        }
+        result
     }
 }
 
@@ -102,62 +116,42 @@ pub(crate) fn erased_look(look: &Look) -> Look
     }
 }
 
-// The place of a look among these, which is perhaps this one; where it is not among them, how many
-// they are.
-#[tactic(auto, using(crate::proofs::Once::place_is))]
-fn place_near(looks: &[Look], near: usize, look: &Look) -> usize
-    requires { IsOnce looks.now }
+// The place of a look among these; if it is not among them, how many they are. It is compared with
+// the first one, which is plain, before its slot is found.
+fn place_of<A: Allocator>(looks: &[Look], places: &Chains<A>, look: &Look) -> usize
+    requires { places.now ≡ map look_slot looks.now }
     ensures { result ≡ place_of look.now looks.now }
 {
-    if near < looks.len() && is_same(&looks[near], look) {
-        near
-    } else {
-        place_of(looks, look)
+    match looks {
+        [first, ..] if is_same(first, look) => 0,
+        _ => place_in_slot(looks, places, look),
     }
 }
 
-// The place of a look among these; where it is not among them, how many they are.
-fn place_of(looks: &[Look], look: &Look) -> usize
+// The same, by a walk along the chain of its slot, which ends at the first place.
+fn place_in_slot<A: Allocator>(looks: &[Look], places: &Chains<A>, look: &Look) -> usize
+    requires { places.now ≡ map look_slot looks.now }
     ensures { result ≡ place_of look.now looks.now }
 {
-    let mut place = 0;
-    while place < looks.len() {
-        if is_same(&looks[place], look) {
-            return place;
-        }
-        place += 1;
+    let mut found = looks.len();
+    let mut end = places.end(look_slot(look));
+    while 0 < end {
+        found = chosen(looks, end - 1, look, found);
+        end = places.end_before(end - 1);
     }
-    place
+    found
 }
 
-// The slot of a look.
-fn slot_of(look: &Look) -> usize
-    ensures { result < 128 }
-{
-    let mut sum = color_sum(look.foreground);
-    sum = mixed(sum, color_sum(look.background));
-    sum = mixed(sum, look.bold as u32);
-    sum = mixed(sum, look.faint as u32);
-    sum = mixed(sum, look.italic as u32);
-    sum = mixed(sum, look.inverse as u32);
-    (sum / 0x200_0000) as usize % SLOTS
-}
-
-// A number that differs where colours do, in most cases.
-fn color_sum(color: Color) -> u32 {
-    match color {
-        Color::Default => 0,
-        Color::Named(color) => mixed(1, color.index() as u32),
-        Color::Palette(index) => mixed(2, index as u32),
-        Color::Direct(color) => {
-            let (red, green, blue) = color.to_tuple_rgb8();
-            mixed(mixed(mixed(3, red as u32), green as u32), blue as u32)
-        }
-    }
-}
-
-// A sum with a number more.
+// A place, if the look is there, and else this one.
 #[inline]
-fn mixed(sum: u32, number: u32) -> u32 {
-    sum.wrapping_add(number).wrapping_mul(0x9e37_79b1)
+fn chosen(looks: &[Look], place: usize, look: &Look, found: usize) -> usize
+    requires { place < length looks.now }
+    ensures { result ≡ (if same_look (get_or looks.now place plain_look) look.now
+        then place else found) }
+{
+    if is_same(&looks[place], look) {
+        place
+    } else {
+        found
+    }
 }

@@ -1,4 +1,4 @@
-//! What a terminal holds, value by value.
+//! The state of a terminal, value by value.
 ghost use Rattle.std.specs.Prelude.{◌≡◌, [], ◌∷◌, None, OnErr, OnOk, IfOk, map, true};
 ghost use Rattle.std.specs.List.{FoldsTo};
 ghost use Rattle.std.specs.Str.{chars};
@@ -8,7 +8,7 @@ ghost use Rattle.esc_style.specs.Looks.{look_by_all};
 ghost use Rattle.esc_screen.specs.Grids.{first_grid};
 ghost use Rattle.esc_screen.specs.Screens.{grid_of, size_of};
 ghost use Rattle.esc_terminal.specs.Fed.{Does, Takes, TakesAll, TakesFunction, TakesSteps, known_in, requests_in, screen_size};
-ghost use Rattle.esc_terminal.specs.Links.{first_known, known_by_lead, known_by_look, known_look, lead_in, lead_of};
+ghost use Rattle.esc_terminal.specs.Links.{first_known, known_by_lead, known_by_look, known_look, lead_in, lead_in_parts, lead_of};
 ghost use Rattle.esc_terminal.specs.Requests.{request_list};
 ghost use Rattle.esc_terminal.specs.Steps.{choice_steps, lead_known, lead_steps, mode_steps, selected_steps};
 ghost use Rattle.esc_terminal.specs.Streams.{title_by_command};
@@ -16,6 +16,7 @@ ghost use Rattle.typed_functions.specs.Functions.{value_of as function_value};
 ghost use Rattle.typed_functions.specs.Selections.{left, modes_left};
 ghost use Rattle.fallible_alloc.specs.Refusals.{Refused};
 
+use crate::link_parts::link_in_parts;
 use crate::looks::erased_look;
 use crate::request::{Request, request_of};
 use crate::steps::{
@@ -27,7 +28,7 @@ use esc_actions::Action;
 use esc_osc::{Hyperlink, OperatingSystemCommand};
 use esc_screen::{Cursor, Screen, Setting, Step};
 use esc_style::Look;
-use esc_values::Text;
+use esc_values::{Items, Text};
 use memchr::memchr;
 use std::alloc::{AllocError, Allocator, Global};
 use typed_functions::{Function, ModeChange, Modes, Renditions, TabChange};
@@ -41,7 +42,7 @@ pub(crate) struct State<A: Allocator = Global> {
     pub styles: Styles<A>,
     /// The title of its window, where it has one.
     pub title: Option<Text<A>>,
-    /// What it was asked for.
+    /// The requests to it.
     pub requests: Vec<Request, A>,
 }
 
@@ -257,6 +258,23 @@ impl<A: Allocator> State<A> {
             _ => {}
         }
     }
+}
+
+impl<A: Allocator + Copy> State<A> {
+    // Takes a command of these parts, which has no other reading.
+    fn lead_in_parts(&mut self, parts: &[Items<u8, A>]) -> Result<(), AllocError>
+        ensures ok { OnOk result (Does self.old
+            (lead_steps self.old.screen.cursor (known_in self.old) (lead_in_parts A parts.now))
+            (lead_known self.old.screen.cursor (known_in self.old) (lead_in_parts A parts.now))
+            self.old.title [] self.new) }
+        ensures refused { OnErr result (Refused A) }
+    {
+        let alloc = *self.requests.allocator();
+        match link_in_parts(alloc, parts)? {
+            Some(link) => self.lead(link),
+            None => Ok(()),
+        }
+    }
 
     // Takes a command for a link, or for the title.
     fn take_command(&mut self, command: OperatingSystemCommand<A>) -> Result<(), AllocError>
@@ -268,6 +286,7 @@ impl<A: Allocator> State<A> {
     {
         match command {
             OperatingSystemCommand::SetHyperlink(link) => self.lead(link),
+            OperatingSystemCommand::Unspecified(parts) => self.lead_in_parts(parts.as_slice()),
             other => {
                 self.take_title(other);
                 Ok(())

@@ -5,7 +5,8 @@ ghost use Rattle.esc_terminal.specs.Links.{Known, first_known, known_look, known
 ghost use Rattle.esc_terminal.specs.Looks.{number_in, with_look};
 ghost use Rattle.fallible_alloc.specs.Refusals.{Refused};
 
-use crate::links::{keep_link, keep_linked, leads};
+use crate::linked::LinkedLooks;
+use crate::links::{Links, leads};
 use crate::looks::{Looks, MOST_LOOKS};
 use esc_osc::Hyperlink;
 use esc_style::Look;
@@ -22,13 +23,13 @@ pub struct Linked {
 
 /// How the characters of a terminal look, and where they lead: a cell has the number of both.
 ///
-/// Of looks 4,096 are kept at most, and a further one is plain; of links 1,024, and of looks that
-/// lead somewhere 4,096: characters of a further one lead nowhere. Each link is kept once.
+/// At most 4,096 looks are kept, and a further one is plain; 1,024 links; and 4,096 looks of
+/// characters that lead somewhere: those of a further one lead nowhere. Each link is kept once.
 #[derive(Drop)]
 pub struct Styles<A: Allocator = Global> {
     pub(crate) looks: Looks<A>,
-    pub(crate) links: Vec<Hyperlink<A>, A>,
-    pub(crate) linked: Vec<Linked, A>,
+    pub(crate) links: Links<A>,
+    pub(crate) linked: LinkedLooks<A>,
 }
 
 impl<A: Allocator + Copy> Styles<A> {
@@ -39,8 +40,8 @@ impl<A: Allocator + Copy> Styles<A> {
     {
         Ok(Styles {
             looks: Looks::new(alloc)?,
-            links: Vec::new(alloc),
-            linked: Vec::new(alloc),
+            links: Links::new(alloc)?,
+            linked: LinkedLooks::new(alloc)?,
         })
     }
 }
@@ -58,10 +59,11 @@ impl<A: Allocator> Styles<A> {
     pub fn link_at(&self, number: u16) -> Option<&Hyperlink<A>>
         ensures { option_map (λ h. target h.now) result ≡ known_target number (known_of self.now) }
     {
+        let links = self.links.as_slice();
         match self.link_number(number) {
             Some(link) => {
-                if (link as usize) < self.links.len() {
-                    Some(&self.links[link as usize])
+                if (link as usize) < links.len() {
+                    Some(&links[link as usize])
                 } else {
                     None
                 }
@@ -74,7 +76,7 @@ impl<A: Allocator> Styles<A> {
     pub fn links(&self) -> &[Hyperlink<A>]
         ensures { map target result.now ≡ (known_of self.now).links }
     {
-        &self.links
+        self.links.as_slice()
     }
 
     /// The place of the link of a number among those that are kept.
@@ -84,9 +86,10 @@ impl<A: Allocator> Styles<A> {
         if (number as usize) < MOST_LOOKS {
             return None;
         }
+        let linked = self.linked.as_slice();
         let place = number as usize - MOST_LOOKS;
-        if place < self.linked.len() {
-            Some(self.linked[place].link)
+        if place < linked.len() {
+            Some(linked[place].link)
         } else {
             None
         }
@@ -99,7 +102,7 @@ impl<A: Allocator> Styles<A> {
         if (number as usize) < MOST_LOOKS {
             return number;
         }
-        match self.linked.get(number as usize - MOST_LOOKS) {
+        match self.linked.as_slice().get(number as usize - MOST_LOOKS) {
             Some(linked) => linked.look,
             None => 0,
         }
@@ -130,7 +133,7 @@ impl<A: Allocator> Styles<A> {
         match link {
             Some(link) => {
                 if leads(&link) {
-                    keep_link(&mut self.links, link)
+                    self.links.keep(link)
                 } else {
                     Ok(None)
                 }
@@ -148,7 +151,7 @@ impl<A: Allocator> Styles<A> {
         ensures refused { OnErr result (Refused A) }
     {
         match link {
-            Some(link) => keep_linked(&mut self.linked, Linked { look, link }),
+            Some(link) => self.linked.keep(Linked { look, link }),
             None => Ok(look),
         }
     }

@@ -1,12 +1,16 @@
-use Rattle.std.proofs.Common.{◌≡◌, ◌+◌, ◌-◌, ◌≤◌, drop, length, map}
+use Rattle.std.proofs.Common.{map}
 use Rattle.esc_terminal.specs.Links.{link_place, target}
+use Rattle.esc_terminal.specs.Slots.{target_slot}
+use Rattle.esc_terminal.proofs.Chained.{IsWalk}
+use Rattle.esc_terminal.proofs.Placed.{is_target_at}
 use Rattle.esc_terminal.proofs.links.link_place.Given as goal
 
--- it is not among those before
-abbrev pub invariant-loop-place : goal.invariant-loop-place
-invariant-loop-place g l = (l.place ≤ length l.links)
-    × (link_place (target l.link) (map target l.links)
-    ≡ l.place + link_place (target l.link) (map target (drop l.place l.links)))
+-- the place is the one found, or a lesser one in the chain
+abbrev pub invariant-loop-end : goal.invariant-loop-end
+invariant-loop-end g l =
+    let t = target l.link in
+    let ts = map target l.links in
+    IsWalk (is_target_at t ts) (target_slot t) l.places l.end l.found (link_place t ts)
 
-abbrev pub decreases-loop-place : goal.decreases-loop-place
-decreases-loop-place g l = length l.links - l.place
+abbrev pub decreases-loop-end : goal.decreases-loop-end
+decreases-loop-end g l = l.end
