@@ -11,7 +11,7 @@ use Rattle.esc_style.specs.declared.look.Look.{Look}
 use Rattle.esc_sequences.specs.declared.underline.Underline.{Underline}
 use Rattle.esc_sequences.specs.declared.underline.Underline.TheVariants as underline
 
-abbrev IsColored : AnsiColor → Look → Type 0
+abbrev pub IsColored : AnsiColor → Look → Type 0
 IsColored k l = is_colored_alone l ≡ true → l ≡ colored k
 
 not_so : {X : Type 0} → false ≡ true → X
@@ -52,17 +52,17 @@ marks k false false false underline.Dotted b v c t o g d e = not_so e
 marks k false false false underline.Dashed b v c t o g d e = not_so e
 
 -- the same, if its colour is known by a proof
+pub is_colored : (l : Look) (k : AnsiColor) → l.foreground ≡ Named k → IsColored k l
+is_colored l k f =
+    subst (λ c. IsColored k (look l.bold l.faint l.italic l.underline l.blink l.inverse
+    l.concealed l.strikethrough l.overline c l.background l.underline_color)) (sym f)
+    (marks k l.bold l.faint l.italic l.underline l.blink l.inverse l.concealed
+    l.strikethrough l.overline l.background l.underline_color)
+
 pub colored_same : (l : Look) (k : AnsiColor) → l.foreground ≡ Named k
     → is_colored_alone l ≡ true
     → page_part_text (span false (colored k)) ≡ page_part_text (span false l)
-colored_same l k f e = sym (ap (λ m. page_part_text (span false m)) (same l k f e))
-  where
-    same : (l : Look) (k : AnsiColor) → l.foreground ≡ Named k → IsColored k l
-    same l k f =
-        subst (λ c. IsColored k (look l.bold l.faint l.italic l.underline l.blink l.inverse
-        l.concealed l.strikethrough l.overline c l.background l.underline_color)) (sym f)
-        (marks k l.bold l.faint l.italic l.underline l.blink l.inverse l.concealed
-        l.strikethrough l.overline l.background l.underline_color)
+colored_same l k f e = sym (ap (λ m. page_part_text (span false m)) (is_colored l k f e))
 
 pub colored_some : {T : Type 0} (r : Option T) (text : T → List ℕ) (b : Bool) (l : Look)
     (k : AnsiColor) → l.foreground ≡ Named k → b ≡ is_colored_alone l

@@ -1,9 +1,11 @@
 pub mod Attributes
 pub mod Characters
 pub mod ColoredLooks
+pub mod Commons
 pub mod Encoded
 pub mod EscapedRuns
 pub mod InParts
+pub mod LookKinds
 pub mod Fed
 pub mod Listing
 pub mod Numbers

@@ -25,7 +25,7 @@ none_after None = refl
 none_after (Some n) = both (is_target n) 0
 
 -- it is one rendition
-alone : (n : ℤ) → selections (Integer n ∷ [])
+pub alone : (n : ℤ) → selections (Integer n ∷ [])
     ≡ (rendition_of (Integer n ∷ []), Integer n ∷ []) ∷ []
 alone n =
     ap (λ k. map selection_of (take (len_before k (Integer n ∷ [])) (Integer n ∷ [])
@@ -36,7 +36,7 @@ named : function_of 365 ≡ Some control.SGR
 unfolding function_of rows_of
 named = refl
 
-step_is : (n : ℤ) (p : Pen)
+pub step_is : (n : ℤ) (p : Pen)
     → function_step p (of_csi (unspecified (Integer n ∷ []) false 0x6d))
     ≡ restyles (look_by_optional p.look (rendition_of (Integer n ∷ [])))
 step_is n p =

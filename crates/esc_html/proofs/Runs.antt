@@ -244,6 +244,10 @@ pub ok_same : {X E T : Type 0} (r : Result X E) (a b c : T) → OnOk r (a ≡ b)
 ok_same (Ok x) a b c h k = h ∙ k
 ok_same (Err e) a b c h k = tt
 
+pub ok_first : {X E : Type 0} (P Q : Type 0) (r : Result X E) → OnOk r (P × Q) → OnOk r P
+ok_first P Q (Ok x) h = h.0
+ok_first P Q (Err e) h = tt
+
 pub received : {E : Type 0} (X Y P Q : Type 0) (r : Result (Unit {0}) E) → (X → Y) → (P → Q)
     → OnOk r X → OnErr r P → MatchResult r (λ _. Y) (λ _. Q)
 received X Y P Q (Ok t) f k x p = f x

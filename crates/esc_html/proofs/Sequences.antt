@@ -21,14 +21,14 @@ use Rattle.esc_values.specs.declared.csi_param.CsiParam.{CsiParam}
 use Rattle.fallible_alloc.specs.Refusals.{Refused}
 
 -- the action is this control sequence
-abbrev IsSequence : {A : Type 0} → Action A → CsiValue → Type 0
+abbrev pub IsSequence : {A : Type 0} → Action A → CsiValue → Type 0
 IsSequence a c = value_of a ≡ csi c
 
 -- the effect of such an action
-abbrev AddsFor : {A : Type 0} → Page A → CsiValue → Page A → Type 0
+abbrev pub AddsFor : {A : Type 0} → Page A → CsiValue → Page A → Type 0
 AddsFor p v q = Adds p (function_step (state_of p).pen (of_csi v)) q
 
-abbrev Denies : {A : Type 0} → Page A → Action A → Page A → Type 0
+abbrev pub Denies : {A : Type 0} → Page A → Action A → Page A → Type 0
 Denies {A} p a q = Refused A
 
 pub rendition_taken : {A : Type 0} (p q : Page A) (vs : List CsiValue) (s : Sgr)

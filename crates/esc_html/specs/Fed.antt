@@ -17,7 +17,7 @@ use Rattle.esc_html.specs.declared.tags.Tags.TheVariants.{Open}
 abbrev pub state_of : {A : Type 0} → Page A → State
 state_of p = record {
   pen = record {
-    look = p.look;
+    look = p.look.look;
     link = p.link;
     lines = p.lines;
     inline = p.layout.inline;
@@ -36,6 +36,10 @@ with_text p (b ∷ t) = record p {
   html = p.html ++ (html_text (opening_tags (state_of p)) ++ flat_map escape_text (b ∷ t));
   tags = Open;
 }
+
+-- the layout stays, and the look
+abbrev pub Stays : {A : Type 0} → Page A → Page A → Type 0
+Stays p q = (q.layout ≡ p.layout) × (q.look ≡ p.look)
 
 -- any character but DEL, for which terminals show nothing
 abbrev pub is_visible : ℕ → Bool

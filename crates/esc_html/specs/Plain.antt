@@ -1,7 +1,9 @@
 -- Looks without renditions, field by field.
 use Rattle.std.specs.Prelude.{Bool, true, false, not, ◌&&◌, is_none}
 use Rattle.typed_functions.specs.declared.ansi_color.AnsiColor.{AnsiColor}
-use Rattle.esc_style.specs.Looks.{plain_look, underline_class}
+use Rattle.esc_html.specs.declared.page_look.Kind.{Kind}
+use Rattle.esc_html.specs.declared.page_look.Kind.TheVariants as kind
+use Rattle.esc_style.specs.Looks.{is_plain, plain_look, underline_class}
 use Rattle.esc_style.specs.declared.color.Color.{Color}
 use Rattle.esc_style.specs.declared.color.Color.TheVariants.{Default, Named, Palette, Direct}
 use Rattle.esc_style.specs.declared.look.Look.{Look}
@@ -32,3 +34,20 @@ colored c = record plain_look { foreground = Named c }
 -- none of the renditions but a colour of the characters holds
 abbrev pub is_colored_alone : Look → Bool
 is_colored_alone l = is_markless l && (is_own l.background && is_own l.underline_color)
+
+-- a colour by its name
+abbrev pub is_named : Color → Bool
+is_named Default = false
+is_named (Named c) = true
+is_named (Palette n) = false
+is_named (Direct c) = false
+
+-- nothing holds but a colour of the characters by its name
+abbrev pub is_colored : Look → Bool
+is_colored l = is_colored_alone l && is_named l.foreground
+
+-- a look is of this kind: it needs no span, has nothing but a colour by its name, or needs a span
+abbrev pub is_of_kind : Kind → Look → Bool
+is_of_kind kind.Plain l = is_plain l
+is_of_kind kind.Colored l = is_colored l
+is_of_kind kind.Other l = not (is_plain l)

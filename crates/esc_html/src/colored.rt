@@ -44,14 +44,14 @@ fn tag_if(is_alone: bool, color: AnsiColor) -> Option<&'static str>
 }
 
 // Whether it has no rendition but a colour of the characters.
-fn is_colored_alone(look: &Look) -> bool
+pub(crate) fn is_colored_alone(look: &Look) -> bool
     ensures { result ≡ is_colored_alone look.now }
 {
     is_markless(look) && is_own(look.background) && is_own(look.underline_color)
 }
 
 // The start tag of a span in this colour.
-fn tag_of(color: AnsiColor) -> &'static str
+pub(crate) fn tag_of(color: AnsiColor) -> &'static str
     ensures { result.now ≡ page_part_text (span false (colored color)) }
 {
     match color {

@@ -30,6 +30,7 @@ mod layout;
 mod line_writer;
 mod markup;
 mod page;
+mod page_look;
 mod plain;
 mod renditions;
 mod shades;

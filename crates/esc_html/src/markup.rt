@@ -1,18 +1,20 @@
 //! A text in HTML that grows.
-ghost use Rattle.std.specs.Prelude.{◌≡◌, ◌++◌, ℕ, List, [], OnErr, OnOk, string_bytes, true};
+ghost use Rattle.std.specs.Prelude.{◌≡◌, ◌<◌, ◌++◌, ◌∷◌, ℕ, List, [], IfSome, OnErr, OnOk, string_bytes, true};
 ghost use Rattle.std.specs.Char.{encode_utf8};
 ghost use Rattle.std.specs.List.{flat_map, list_all};
 ghost use Rattle.esc_html.specs.Characters.{is_bare};
 ghost use Rattle.esc_html.specs.PageParts.{escape_text, link, page_part_text, span};
+ghost use Rattle.esc_html.specs.Plain.{colored};
 ghost use Rattle.fallible_alloc.specs.Refusals.{Refused};
 
-use crate::colored::push_any_span;
+use crate::colored::{push_any_span, tag_of};
 use crate::escaping::{push_char, push_escaped};
 use crate::inline::push_inline_span;
 use crate::writing::push_link;
 use esc_style::Look;
 use std::alloc::{AllocError, Allocator, Global};
 use std::marker::Model;
+use typed_functions::AnsiColor;
 
 /// A text in HTML. Contracts see its bytes. If memory is refused, a part of the text to append may
 /// be there.
@@ -81,7 +83,20 @@ impl<A: Allocator> Markup<A> {
         ensures ok { OnOk result (self.new ≡ self.old ++ flat_map escape_text more.now) }
         ensures refused { OnErr result (Refused A) }
     {
-        self.push_html(more)
+        match lone_ascii(more) {
+            Some(byte) => self.push_byte(byte),
+            None => self.push_html(more),
+        }
+    }
+
+    // Appends a character of ASCII.
+    #[inline]
+    fn push_byte(&mut self, byte: u8) -> Result<(), AllocError>
+        requires { byte < 128 }
+        ensures ok { OnOk result (self.new ≡ self.old ++ byte ∷ []) }
+        ensures refused { OnErr result (Refused A) }
+    {
+        fallible_alloc::push_char(&mut self.string, byte as char)
     }
 
     /// Begins a span, in declarations alone or with classes.
@@ -96,6 +111,25 @@ impl<A: Allocator> Markup<A> {
         }
     }
 
+    /// The same, if the look is this colour and nothing else.
+    #[inline]
+    pub fn push_colored(
+        &mut self,
+        inline: bool,
+        color: AnsiColor,
+        look: &Look,
+    ) -> Result<(), AllocError>
+        requires { look.now ≡ colored color }
+        ensures ok { OnOk result (self.new ≡ self.old ++ page_part_text (span inline look.now)) }
+        ensures refused { OnErr result (Refused A) }
+    {
+        if inline {
+            push_inline_span(&mut self.string, look)
+        } else {
+            self.push_html(tag_of(color))
+        }
+    }
+
     /// Begins a link.
     pub fn push_link(&mut self, address: &str) -> Result<(), AllocError>
         ensures ok { OnOk result (self.new ≡ self.old ++ page_part_text (link address.now)) }
@@ -103,4 +137,24 @@ impl<A: Allocator> Markup<A> {
     {
         push_link(&mut self.string, address)
     }
+}
+
+// The character that a text is, if it is one of ASCII: a space, mostly.
+#[inline]
+fn lone_ascii(text: &str) -> Option<u8>
+    ensures whole { IfSome result (λ b. text.now ≡ b ∷ []) }
+    ensures ascii { IfSome result (λ b. b < 128) }
+{
+    match text.as_bytes() {
+        [byte] => ascii(*byte),
+        _ => None,
+    }
+}
+
+// The byte, if it is one of ASCII.
+#[inline]
+fn ascii(byte: u8) -> Option<u8>
+    ensures { IfSome result (λ b. (b ≡ byte) × (b < 128)) }
+{
+    if byte < 0x80 { Some(byte) } else { None }
 }

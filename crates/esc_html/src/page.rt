@@ -4,12 +4,12 @@ ghost use Rattle.std.specs.List.{filter, list_all};
 ghost use Rattle.std.specs.Str.{chars};
 ghost use Rattle.esc_actions.specs.declared.action.Action.TheVariants.{Print};
 ghost use Rattle.esc_html.specs.Characters.{is_bare};
-ghost use Rattle.esc_html.specs.Fed.{Adds, Takes, is_visible, state_of, text_of, with_text};
+ghost use Rattle.esc_html.specs.Fed.{Adds, Stays, Takes, is_visible, state_of, text_of, with_text};
 ghost use Rattle.esc_style.specs.Looks.{is_plain, look_by, look_by_all};
 ghost use Rattle.esc_html.specs.Marks.{command_step, control_step, escape_step, function_step, next_line, print_step, redirects, restyles, shows, with_link};
 ghost use Rattle.esc_html.specs.Pages.{State, after_character, before_character, closed, first_state, link_opening, opening_tags, span_closed, span_unless, with_tags, without_span};
 ghost use Rattle.esc_html.specs.PageParts.{html_text};
-ghost use Rattle.esc_html.specs.Renditions.{rendition_of};
+ghost use Rattle.esc_html.specs.Renditions.{rendition_by, rendition_of};
 ghost use Rattle.esc_parse.specs.Given.{Receives};
 ghost use Rattle.esc_sequences.specs.Csis.{sgr, unspecified};
 ghost use Rattle.esc_html.specs.declared.tags.Tags.TheVariants.{Closed, Open};
@@ -22,15 +22,14 @@ use crate::breaks::{begins_line, escape_begins_line};
 use crate::character::{SHORT, are_bare, are_characters, as_str, shown_as};
 use crate::layout::Layout;
 use crate::markup::Markup;
-use crate::plain::is_plain;
-use crate::renditions::{function_of, lone_rendition, rendition_of};
+use crate::page_look::PageLook;
+use crate::renditions::{Common, common_rendition, function_of, lone_rendition, rendition_of};
 use crate::tags::{Tags, closing_tags, link_end, span_end};
 use esc_actions::Action;
 use esc_osc::OperatingSystemCommand;
 use esc_parse::Sink;
 use esc_sequences::csi::{is_unspecified, short_rendition};
 use esc_sequences::{Esc, Sgr};
-use esc_style::Look;
 use esc_values::{CsiParam, Text};
 use memchr::memchr;
 use std::alloc::{AllocError, Allocator, Global};
@@ -46,7 +45,7 @@ pub(crate) struct Page<A: Allocator = Global> {
     /// The text that was added last.
     pub html: Markup<A>,
     /// How the characters look.
-    pub look: Look,
+    pub look: PageLook,
     /// The address that they lead to.
     pub link: Option<Text<A>>,
     /// On how many more lines they may, if tags are closed at the end of each.
@@ -66,7 +65,7 @@ impl<A: Allocator> Page<A> {
     {
         Page {
             html: Markup::new(alloc),
-            look: Look::plain(),
+            look: PageLook::plain(),
             link: None,
             lines: 0,
             tags: Tags::Closed,
@@ -89,7 +88,7 @@ impl<A: Allocator> Page<A> {
         ensures ok { OnOk result (text_of self.new
             ≡ text_of self.old ++ html_text (link_opening (state_of self.old).pen.link)) }
         ensures state { OnOk result (state_of self.new ≡ state_of self.old) }
-        ensures layout { OnOk result (self.new.layout ≡ self.old.layout) }
+        ensures stays { OnOk result (Stays self.old self.new) }
         ensures refused { OnErr result (Refused A) }
     {
         match &self.link {
@@ -102,15 +101,12 @@ impl<A: Allocator> Page<A> {
     fn open_span(&mut self) -> Result<(), AllocError>
         ensures ok { OnOk result (text_of self.new
             ≡ text_of self.old ++ html_text
-            (span_unless self.old.layout.inline (is_plain self.old.look) self.old.look)) }
+            (span_unless self.old.layout.inline (is_plain self.old.look.look) self.old.look.look)) }
         ensures state { OnOk result (state_of self.new ≡ state_of self.old) }
-        ensures layout { OnOk result (self.new.layout ≡ self.old.layout) }
+        ensures stays { OnOk result (Stays self.old self.new) }
         ensures refused { OnErr result (Refused A) }
     {
-        if is_plain(&self.look) {
-            return Ok(());
-        }
-        self.html.push_span(self.layout.inline, &self.look)
+        self.look.open(&mut self.html, self.layout.inline)
     }
 
     // Opens the tags that are not open.
@@ -118,7 +114,7 @@ impl<A: Allocator> Page<A> {
         ensures ok { OnOk result (text_of self.new
             ≡ text_of self.old ++ html_text (opening_tags (state_of self.old))) }
         ensures state { OnOk result (state_of self.new ≡ with_tags (state_of self.old) Open) }
-        ensures layout { OnOk result (self.new.layout ≡ self.old.layout) }
+        ensures stays { OnOk result (Stays self.old self.new) }
         ensures refused { OnErr result (Refused A) }
     {
         match self.tags {
@@ -167,7 +163,7 @@ impl<A: Allocator> Page<A> {
         match self.tags {
             Tags::Closed => "",
             Tags::Link => link_end(self.link.is_some()),
-            Tags::Open => closing_tags(is_plain(&self.look), self.link.is_some()),
+            Tags::Open => closing_tags(self.look.is_plain(), self.link.is_some()),
         }
     }
 
@@ -177,7 +173,7 @@ impl<A: Allocator> Page<A> {
     {
         match self.tags {
             Tags::Closed | Tags::Link => "",
-            Tags::Open => span_end(is_plain(&self.look)),
+            Tags::Open => span_end(self.look.is_plain()),
         }
     }
 
@@ -366,6 +362,21 @@ impl<A: Allocator> Page<A> {
         Ok(())
     }
 
+    // The span is closed, and the look changes by a rendition that many logs have.
+    #[inline]
+    fn select_common(&mut self, common: Common) -> Result<(), AllocError>
+        ensures ok { OnOk result (Adds self.old
+            (restyles (look_by (state_of self.old).pen.look (rendition_by common))) self.new) }
+        ensures refused { OnErr result (Refused A) }
+    {
+        self.close_span()?;
+        match common {
+            Common::Reset => self.look.reset(),
+            Common::Color(color) => self.look.color(color),
+        }
+        Ok(())
+    }
+
     // Takes a control sequence by its parameters.
     fn take_params(
         &mut self,
@@ -467,6 +478,10 @@ impl<A: Allocator> Sink<Action<A>> for Page<A> {
         parameters_truncated: bool,
         control: u8,
     ) -> Result<bool, AllocError> {
+        if let Some(common) = common_rendition(params, parameters_truncated, control) {
+            self.select_common(common)?;
+            return Ok(true);
+        }
         if let Some(rendition) = short_rendition(params, parameters_truncated, control) {
             self.take_rendition(rendition)?;
             return Ok(true);

@@ -1,15 +1,92 @@
 //! The renditions that a control sequence asks for.
-ghost use Rattle.std.specs.Prelude.{◌≡◌, IfSome};
+ghost use Rattle.std.specs.Prelude.{◌≡◌, IfSome, Some, false};
 ghost use Rattle.esc_html.specs.Marks.{Pen, function_step, restyles};
-ghost use Rattle.esc_html.specs.Numbers.{is_lone_number};
-ghost use Rattle.esc_html.specs.Renditions.{is_number, rendition_of};
+ghost use Rattle.esc_html.specs.Numbers.{is_lone_number, lone_byte};
+ghost use Rattle.esc_html.specs.Renditions.{AsksFor, is_number, rendition_by, rendition_of};
 ghost use Rattle.esc_sequences.specs.Csis.{unspecified};
 ghost use Rattle.esc_style.specs.Looks.{look_by};
 ghost use Rattle.typed_functions.specs.Functions.{of_csi, value_of};
+ghost use Rattle.typed_functions.specs.Numbers.{numbered};
+ghost use Rattle.typed_functions.specs.Renditions.{byte_of};
 
 use esc_sequences::Sgr;
 use esc_values::CsiParam;
-use typed_functions::{Function, Rendition};
+use typed_functions::{AnsiColor, Function, Rendition};
+
+/// The renditions that a coloured log has most.
+#[derive(Clone, Copy)]
+pub(crate) enum Common {
+    /// Each rendition as at first.
+    Reset,
+    /// A colour of the characters, by its name.
+    Color(AnsiColor),
+}
+
+/// The one that a control sequence of these parameters asks for, if it has one number and nothing
+/// else, and this asks for such a rendition. `None` says nothing about the sequence.
+#[inline]
+pub(crate) fn common_rendition(
+    params: &[CsiParam],
+    parameters_truncated: bool,
+    control: u8,
+) -> Option<Common>
+    ensures { IfSome result (λ k.
+        AsksFor params.now parameters_truncated control (rendition_by k)) }
+{
+    if !is_lone_number(params, parameters_truncated, control) {
+        return None;
+    }
+    common_of(params)
+}
+
+// The one that its number asks for.
+#[inline]
+fn common_of(params: &[CsiParam]) -> Option<Common>
+    ensures { IfSome result (λ k. AsksFor params.now false 0x6d (rendition_by k)) }
+{
+    match lone_byte(params) {
+        Some(number) => common_at(number),
+        None => None,
+    }
+}
+
+// The only parameter, if it is a number of at most 255.
+#[inline]
+fn lone_byte(params: &[CsiParam]) -> Option<u8>
+    ensures { result ≡ lone_byte params.now }
+{
+    match params {
+        [param] => byte_of(*param),
+        _ => None,
+    }
+}
+
+// A number of at most 255.
+#[inline]
+fn byte_of(param: CsiParam) -> Option<u8>
+    ensures { result ≡ byte_of param }
+{
+    match param {
+        CsiParam::Integer(number) => match u8::try_from(number) {
+            Ok(byte) => Some(byte),
+            Err(_) => None,
+        },
+        CsiParam::P(_) => None,
+    }
+}
+
+// The one that a number asks for.
+#[inline]
+fn common_at(number: u8) -> Option<Common>
+    ensures { IfSome result (λ k. numbered number ≡ Some (rendition_by k)) }
+{
+    match number {
+        0 => Some(Common::Reset),
+        30..=37 => Some(Common::Color(AnsiColor::at(number - 30))),
+        90..=97 => Some(Common::Color(AnsiColor::at(number - 82))),
+        _ => None,
+    }
+}
 
 /// The rendition that a control sequence of these parameters asks for, if it has one number and
 /// nothing else, as most have; it is read without its function's name.

@@ -1,15 +1,20 @@
 //! Strings of a stream that do not end, and so take the text after them from a page.
+ghost use Rattle.std.specs.Prelude.{◌<◌, ◌≤◌, length};
 
 use esc_decode::{CodePage, Encoding, Mask};
 use esc_frame::{VTActor, VTParser};
 use esc_values::CsiParam;
 use memchr::{memchr, memchr2};
 use std::alloc::{AllocError, Global};
+use std::simd::prelude::*;
 
 const ESC: u8 = 0x1b;
 
 // How many bytes are looked at one by one.
 const NEAR: usize = 16;
+
+// How many bytes are looked at together.
+const BLOCK: usize = 16;
 
 /// The string that is unfinished at the end of a stream.
 #[derive(Clone, Copy)]
@@ -88,16 +93,28 @@ impl Strings {
     fn passed(&self, bytes: &[u8]) -> usize {
         let mut rest = bytes;
         while !rest.is_empty() {
-            let at = match self.candidate(rest) {
+            let here = self.after_blocks(rest);
+            let at = match self.candidate(here) {
                 Some(at) => at,
-                None => rest.len(),
+                None => here.len(),
             };
-            if !is_other(rest.get(at..).unwrap_or(rest)) {
-                return bytes.len().saturating_sub(rest.len()).saturating_add(at);
+            if !is_other(here.get(at..).unwrap_or(here)) {
+                return bytes.len().saturating_sub(here.len()).saturating_add(at);
             }
-            rest = &rest[at.saturating_add(2).min(rest.len())..];
+            rest = &here[at.saturating_add(2).min(here.len())..];
         }
         bytes.len()
+    }
+
+    // The bytes after the blocks that come first and open no string, of which there are some in
+    // UTF-8 alone.
+    fn after_blocks<'a>(&self, bytes: &'a [u8]) -> &'a [u8]
+        ensures { length result.now ≤ length bytes.now }
+    {
+        match self.encoding {
+            Encoding::Utf8 => after_clear_blocks(bytes),
+            Encoding::EightBit | Encoding::CodePage(_) => bytes,
+        }
     }
 
     // The place of the first byte that may open a string.
@@ -156,11 +173,40 @@ impl Strings {
 
     fn count_lines(&mut self, bytes: &[u8]) {
         let mut rest = bytes;
-        while let Some(at) = memchr(b'\n', rest) {
-            self.feeds = self.feeds.saturating_add(1);
-            rest = &rest[at + 1..];
+        while rest.len() >= BLOCK {
+            let feeds = u8x16::from_slice(rest).simd_eq(u8x16::splat(b'\n'));
+            let count = feeds.to_bitmask().count_ones();
+            self.feeds = self.feeds.saturating_add(u64::from(count));
+            rest = &rest[BLOCK..];
+        }
+        for byte in rest {
+            self.feeds = self.feeds.saturating_add(u64::from(*byte == b'\n'));
         }
     }
+}
+
+// The bytes after the blocks that come first and in which no string opens.
+fn after_clear_blocks(bytes: &[u8]) -> &[u8]
+    ensures { length result.now ≤ length bytes.now }
+{
+    let mut rest = bytes;
+    while rest.len() > BLOCK && is_clear(rest) {
+        rest = &rest[BLOCK..];
+    }
+    rest
+}
+
+// Whether each ESC in the first block begins a control sequence, and no byte there may begin a C1
+// control in UTF-8.
+#[inline]
+fn is_clear(bytes: &[u8]) -> bool
+    requires { BLOCK < length bytes.now }
+{
+    let here = u8x16::from_slice(bytes);
+    let after = u8x16::from_slice(&bytes[1..]);
+    let escapes = here.simd_eq(u8x16::splat(ESC)) & after.simd_ne(u8x16::splat(b'['));
+    let marks = escapes | here.simd_eq(u8x16::splat(0xc2));
+    marks.to_bitmask() == 0
 }
 
 // The place of the first byte that is ESC or begins a C1 control in UTF-8. The first few are looked
