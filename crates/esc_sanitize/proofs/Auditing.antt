@@ -1,44 +1,62 @@
 -- What an auditor tells of a stream that has ended.
-use Rattle.std.proofs.Common.{ℕ, ◌≡◌, true, false, if◌then◌else◌, Option, None, Some, List, [], ◌∷◌, length, refl, sym, ap, ◌∙◌, subst}
+use Rattle.std.proofs.Common.{ℕ, ◌≡◌, ◌+◌, ◌-◌, ◌<◌, ◌^◌, min, arith, true, false, if◌then◌else◌, Option, None, Some, is_some, List, [], ◌∷◌, length, refl, sym, ap, ◌∙◌, subst}
 use Rattle.esc_account.specs.Accounts.{Rule, total}
 use Rattle.esc_account.specs.Judges.{GoesBy}
+use Rattle.esc_account.specs.Leaving.{IsLeftOut}
 use Rattle.esc_account.specs.Ledgers.{IsCounted}
 use Rattle.esc_account.specs.Passing.{AllPass, IsPassing, passed_as, says}
 use Rattle.esc_account.specs.Rules.{rule_of}
 use Rattle.esc_account.specs.Ways.{IsToldBy, Way, by_lines, silent_way, whole_way}
+use Rattle.esc_account.specs.declared.account.Account.{Account}
+use Rattle.esc_account.specs.declared.sums.Sums.{Sums}
 use Rattle.esc_account.specs.declared.book.Book.{Ghosts as Writer}
 use Rattle.esc_account.specs.declared.policy_judge.PolicyJudge.{PolicyJudge}
 use Rattle.esc_decode.specs.Decodings.{decoded_stream}
 use Rattle.esc_filter.specs.declared.admit.Admit.{Ghosts as Admitter}
 use Rattle.esc_frame.specs.Segments.{Segment as Shape, bytes_of}
+use Rattle.esc_frame.specs.Segments.Opener.{Long}
+use Rattle.esc_frame.specs.Segments.Segment.{Csi}
 use Rattle.caret_notation.specs.declared.marking.Marking.{Marking}
-use Rattle.esc_sanitize.specs.Audits.{HeardAll, IsAudited, Told, account_of, way_by, way_of}
+use Rattle.esc_sanitize.specs.Audits.{HasNoted, HeardAll, IsAudited, Told, account_of, way_by, way_of}
 use Rattle.esc_sanitize.specs.Fates.{shown_as}
 use Rattle.esc_sanitize.specs.Judged.{judged_rule, rule_by}
+use Rattle.esc_sanitize.specs.Overwritten.{lost_of_stream, moved, with_overwritten}
 use Rattle.esc_sanitize.specs.Written.{passed_of}
 use Rattle.esc_sanitize.specs.declared.auditor.Auditor.{Auditor}
 use Rattle.esc_sanitize.specs.declared.auditor.Auditor.TheVariants as auditors
 use Rattle.esc_sanitize.specs.declared.options.FilterOptions.{FilterOptions}
 
+total_moved : (n : ℕ) (x : Sums) → total x < 2 ^ 64 → total (moved n x) ≡ total x
+total_moved n x few = omega (arith, few)
+
+-- the account with the bytes that are overwritten
+told_moved : (y : Account) (w : Way) (s t : List ℕ) (m n : ℕ) → m ≡ n → IsCounted s
+    → total y.sums ≡ length s → IsToldBy w s t y → Told w s t n (Some (with_overwritten m y))
+told_moved y w s t m n noted few all is = (
+  total_moved m y.sums (omega (arith, few, all)) ∙ all,
+  (y, ap (λ k. with_overwritten k y) noted, is),
+)
+
 pub told : {P B A : Type 0} (V : Admitter P A) (W : Writer B A) (a : Auditor P B A) (w : Way)
-    (s t : List ℕ) → HeardAll V W a s t → way_of V a ≡ w → IsCounted s
-    → Told w s t (account_of a)
-told V W auditors.Nobody w s t heard e few = sym e
-told V W (auditors.Lines k) w s t heard e few =
+    (s t : List ℕ) (n : ℕ) → HeardAll V W a s t → way_of V a ≡ w → HasNoted n a → IsCounted s
+    → Told w s t n (account_of a)
+told V W auditors.Nobody w s t n heard e noted few = sym e
+told V W (auditors.Lines k m) w s t n heard e noted few =
     let h = heard few in
-    subst (λ v. (total k.account.sums ≡ length s) × IsToldBy v s t k.account) e
-    (h.0, (h.1.0, h.1.1))
-told V W (auditors.Whole k) w s t heard e few =
+    told_moved k.account w s t m n noted few h.0
+    (subst (λ v. IsToldBy v s t k.account) e (h.1.0, h.1.1))
+told V W (auditors.Whole k m) w s t n heard e noted few =
     let h = heard few in
-    subst (λ v. (total k.account.sums ≡ length s) × IsToldBy v s t k.account) e
-    (h.0, (h.1.0, h.1.1, h.1.2))
+    told_moved k.account w s t m n noted few h.0
+    (subst (λ v. IsToldBy v s t k.account) e (h.1.0, h.1.1, h.1.2))
 
 pub audited : {P B A : Type 0} (V : Admitter P A) (W : Writer B A) (o : FilterOptions P)
     (a : Auditor P B A) (s : List ℕ)
     → HeardAll V W a (decoded_stream o.encoding s) (passed_of V o s)
-    → way_of V a ≡ way_by V o → IsAudited V W o a s
-audited V W o a s heard way = record {
-  told = told V W a (way_by V o) (decoded_stream o.encoding s) (passed_of V o s) heard way;
+    → way_of V a ≡ way_by V o → HasNoted (lost_of_stream V o s) a → IsAudited V W o a s
+audited V W o a s heard way noted = record {
+  told = told V W a (way_by V o) (decoded_stream o.encoding s) (passed_of V o s)
+      (lost_of_stream V o s) heard way noted;
   heard = heard;
   way = way;
 }
@@ -63,6 +81,19 @@ all_shown m r o n (g ∷ gs) h = (
 pub shown_pass : (m : Option Marking) (r : Rule) (o n : Option ℕ) (x : List ℕ)
     → IsPassing r o x n → IsPassing (λ b g f. shown_as m (bytes_of g) (r b g f)) o x n
 shown_pass m r o n x h = (h.0, h.1, all_shown m r o n h.0 h.2)
+
+-- what is left out is so where nothing is shown
+pub shown_left : (m : Option Marking) (r : Rule) (x : List ℕ) → is_some m ≡ false
+    → IsLeftOut r x → IsLeftOut (λ b g f. shown_as m (bytes_of g) (r b g f)) x
+shown_left None r x none h = record {
+  rest = h.rest;
+  final = h.final;
+  whole = h.whole;
+  sequence = h.sequence;
+  leaves = λ b.
+      ap (shown_as None (bytes_of (Csi (Long []) h.sequence.body h.final))) (h.leaves b);
+}
+shown_left (Some k) r x none h = absurd cc
 
 -- ---- what the options say
 

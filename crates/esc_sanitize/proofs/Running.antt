@@ -8,10 +8,11 @@ use Rattle.esc_filter.specs.declared.admit.Admit.{Ghosts as Admitter}
 use Rattle.esc_normal.specs.declared.feeding.StreamFilter.{Ghosts as Feeder}
 use Rattle.esc_sanitize.proofs.Following.{passed_longer, passing_longer}
 use Rattle.esc_sanitize.proofs.Texts.{rows_end, rows_longer, rows_none}
-use Rattle.esc_sanitize.specs.Audits.{HeardAll, way_by}
-use Rattle.esc_sanitize.specs.Hearings.{Follows, HasHeard}
-use Rattle.esc_sanitize.specs.Rows.{HasLeft, left_added}
-use Rattle.esc_sanitize.specs.Stages.{Gives, HasListened, IsRun, Runs, auditor_of, options_of}
+use Rattle.esc_sanitize.specs.Audits.{HasNoted, HeardAll, way_by}
+use Rattle.esc_sanitize.specs.Hearings.{Follows, HasHeard, heard_added}
+use Rattle.esc_sanitize.specs.Overwritten.{lost_in, lost_of_stream}
+use Rattle.esc_sanitize.specs.Rows.{HasLeft, left_added, left_lost}
+use Rattle.esc_sanitize.specs.Stages.{Gives, HasFinished, HasListened, IsRun, Runs, auditor_of, options_of, staged_added}
 use Rattle.esc_sanitize.specs.Written.{final_text, going_of, left_text, passed_of, passing_of, text_of}
 use Rattle.esc_sanitize.specs.declared.hearing.Hearing.{Hearing}
 use Rattle.esc_sanitize.specs.declared.left.Left.{Left}
@@ -46,13 +47,44 @@ module _ {F P B A : Type 0} (G : Feeder F A) (V : Admitter P A) (W : Writer B A)
       → text_of V o s ≡ going_of V o s ++ left_added n t
   runs_end n t more added = ap (left_text A o.window) more ∙ added
 
+-- the end, of which x passed, and of all of which so much is lost
+pub finishes : {F P B A : Type 0} (G : Feeder F A) (V : Admitter P A) (W : Writer B A)
+    (o : FilterOptions P) (s : List ℕ) (k j : Hearing F P B A) (n : Left A) (x : List ℕ) (count : ℕ)
+    → x ≡ heard_added G k → count ≡ left_lost n → j.options ≡ k.options → k.options ≡ o
+    → j.decoding ≡ k.decoding → HasHeard V W k s
+    → passed_of V o s ≡ passing_of V o s ++ heard_added G k
+    → left_text A o.window (passing_of V o s ++ x)
+    ≡ final_text A o.window (passing_of V o s) ++ left_added n x
+    → left_lost n ≡ lost_in A o.window (passing_of V o s ++ x)
+    → (HasHeard V W k s → HasHeard V W j s) → HasNoted count j.auditor
+    → HasFinished V W (record { hearing = j; left = n }) s
+    × (text_of V o s ≡ going_of V o s ++ staged_added G (record { hearing = j; left = n }))
+finishes {A = A} G V W o s k j n x count is lost same old decodes heard more added missing hears
+    noted =
+    let t = heard_added G k in
+    let u = passing_of V o s in
+    let so : count ≡ lost_of_stream V o s =
+    lost ∙ missing ∙ ap (λ y. lost_in A o.window (u ++ y)) is
+    ∙ ap (lost_in A o.window) (sym more) in
+    let there : left_text A o.window (u ++ t) ≡ final_text A o.window u ++ left_added n t =
+    subst (λ y. left_text A o.window (u ++ y) ≡ final_text A o.window u ++ left_added n y) is
+    added in (
+      (
+        hears heard,
+        subst (λ q. HasNoted (lost_of_stream V q s) j.auditor) (sym (same ∙ old))
+            (subst (λ i. HasNoted i j.auditor) so noted),
+      ),
+      runs_end G V W o s n t more there
+          ∙ ap (λ d. going_of V o s ++ left_added n (G.added d.filter)) (sym decodes),
+    )
+
 -- ---- as what takes a stream in pieces
 
 -- what it gives by its options
 pub runs_by : {F P B A : Type 0} (G : Feeder F A) (V : Admitter P A) (W : Writer B A)
     (k : Staged F P B A) (m c : List ℕ → List ℕ) (s : List ℕ) → Gives G V W k m c s
-    → IsRun G V W (options_of k).encoding (way_by V (options_of k)) (passed_of V (options_of k)) k
-    m c s
+    → IsRun G V W (options_of k).encoding (way_by V (options_of k)) (passed_of V (options_of k))
+    (lost_of_stream V (options_of k)) k m c s
 runs_by G V W k m c s (runs, goes_on, ends) = record {
   runs = runs;
   goes_on = goes_on;
@@ -60,16 +92,17 @@ runs_by G V W k m c s (runs, goes_on, ends) = record {
   coding = refl;
   way = refl;
   passed = λ x. refl;
+  losing = λ x. refl;
 }
 
 module _ {F P B A : Type 0} (G : Feeder F A) (V : Admitter P A) (W : Writer B A)
-    (e : Encoding) (w : Way) (text m c : List ℕ → List ℕ) (k : Staged F P B A) (s : List ℕ)
-    (h : IsRun G V W e w text k m c s) where
+    (e : Encoding) (w : Way) (text m c : List ℕ → List ℕ) (lost : List ℕ → ℕ)
+    (k : Staged F P B A) (s : List ℕ) (h : IsRun G V W e w text lost k m c s) where
   -- bytes more added t
   pub run_more : (n : Staged F P B A) (b t : List ℕ) → options_of n ≡ options_of k
       → Runs G V W n (s ++ b)
       → going_of V (options_of k) (s ++ b) ≡ going_of V (options_of k) s ++ t
-      → IsRun G V W e w text n m c (s ++ b) × (m (s ++ b) ≡ m s ++ t)
+      → IsRun G V W e w text lost n m c (s ++ b) × (m (s ++ b) ≡ m s ++ t)
   run_more n b t same runs added = (
     record {
       runs = runs;
@@ -78,6 +111,7 @@ module _ {F P B A : Type 0} (G : Feeder F A) (V : Admitter P A) (W : Writer B A)
       coding = ap (λ o. o.encoding) same ∙ h.coding;
       way = ap (way_by V) same ∙ h.way;
       passed = λ x. ap (λ o. passed_of V o x) same ∙ h.passed x;
+      losing = λ x. ap (λ o. lost_of_stream V o x) same ∙ h.losing x;
     },
     h.goes_on (s ++ b) ∙ added ∙ ap (λ y. y ++ t) (sym (h.goes_on s)),
   )
@@ -89,13 +123,15 @@ module _ {F P B A : Type 0} (G : Feeder F A) (V : Admitter P A) (W : Writer B A)
 
   -- and the auditor heard all of it
   pub run_heard : (n : Staged F P B A) → options_of n ≡ options_of k
-      → HasHeard V W n.hearing s → HasListened V W e w text (auditor_of n) s
+      → HasFinished V W n s → HasListened V W e w text lost (auditor_of n) s
   run_heard n same heard = (
     subst (λ j. HeardAll V W (auditor_of n) (decoded_stream j s) (text s))
         (ap (λ o. o.encoding) same ∙ h.coding)
         (subst (HeardAll V W (auditor_of n) (decoded_stream (options_of n).encoding s))
-        (ap (λ o. passed_of V o s) same ∙ h.passed s) heard.0),
-    heard.1 ∙ ap (way_by V) same ∙ h.way,
+        (ap (λ o. passed_of V o s) same ∙ h.passed s) heard.0.0),
+    heard.0.1 ∙ ap (way_by V) same ∙ h.way,
+    subst (λ i. HasNoted i (auditor_of n)) (ap (λ o. lost_of_stream V o s) same ∙ h.losing s)
+        heard.1,
   )
 
   -- more of the stream only adds, and so does the end of any

@@ -12,6 +12,7 @@ use Rattle.esc_decode.specs.Decodings.{decoded_stream}
 use Rattle.esc_filter.specs.declared.admit.Admit.{Ghosts as Admitter}
 use Rattle.esc_normal.specs.Io.{Borrowed, Reads}
 use Rattle.esc_sanitize.specs.Judged.{judged_rule, rule_by}
+use Rattle.esc_sanitize.specs.Overwritten.{lost_of_stream, with_overwritten}
 use Rattle.esc_sanitize.specs.Written.{passed_of}
 use Rattle.esc_sanitize.specs.declared.auditor.Auditor.{Auditor}
 use Rattle.esc_sanitize.specs.declared.auditor.Auditor.TheVariants as auditors
@@ -25,21 +26,21 @@ ruler V = record { rule = judged_rule V }
 abbrev pub Heard : {P B A : Type 0} → Admitter P A → Writer B A → Auditor P B A → List ℕ → List ℕ
     → Type 0
 Heard V W auditors.Nobody s t = Unit {0}
-Heard V W (auditors.Lines k) s t = IsCounted s → Keeps (ruler V) W k s t
-Heard V W (auditors.Whole k) s t = IsCounted s → Hears (ruler V) W k s
+Heard V W (auditors.Lines k n) s t = IsCounted s → Keeps (ruler V) W k s t
+Heard V W (auditors.Whole k n) s t = IsCounted s → Hears (ruler V) W k s
 
 -- the same of one that has ended
 abbrev pub HeardAll : {P B A : Type 0} → Admitter P A → Writer B A → Auditor P B A → List ℕ
     → List ℕ → Type 0
 HeardAll V W auditors.Nobody s t = Unit {0}
-HeardAll V W (auditors.Lines k) s t = IsCounted s → Tells (ruler V) W k s t
-HeardAll V W (auditors.Whole k) s t = IsCounted s → Closes (ruler V) W k s
+HeardAll V W (auditors.Lines k n) s t = IsCounted s → Tells (ruler V) W k s t
+HeardAll V W (auditors.Whole k n) s t = IsCounted s → Closes (ruler V) W k s
 
 -- what it goes by
 abbrev pub way_of : {P B A : Type 0} → Admitter P A → Auditor P B A → Way
 way_of V auditors.Nobody = silent_way
-way_of V (auditors.Lines k) = by_lines (judged_rule V k.judge)
-way_of V (auditors.Whole k) = whole_way (judged_rule V k.judge)
+way_of V (auditors.Lines k n) = by_lines (judged_rule V k.judge)
+way_of V (auditors.Whole k n) = whole_way (judged_rule V k.judge)
 
 -- by the options
 abbrev pub way_by : {P A : Type 0} → Admitter P A → FilterOptions P → Way
@@ -47,28 +48,35 @@ way_by V o = if o.audits
     then (if o.by_lines then by_lines (rule_by V o) else whole_way (rule_by V o))
     else silent_way
 
+-- so many bytes count as overwritten, where it keeps an account
+abbrev pub HasNoted : {P B A : Type 0} → ℕ → Auditor P B A → Type 0
+HasNoted n auditors.Nobody = Unit {0}
+HasNoted n (auditors.Lines k m) = m ≡ n
+HasNoted n (auditors.Whole k m) = m ≡ n
+
 -- its account
 abbrev pub account_of : {P B A : Type 0} → Auditor P B A → Option Account
 account_of auditors.Nobody = None
-account_of (auditors.Lines k) = Some k.account
-account_of (auditors.Whole k) = Some k.account
+account_of (auditors.Lines k n) = Some (with_overwritten n k.account)
+account_of (auditors.Whole k n) = Some (with_overwritten n k.account)
 
 -- the book that was given the entries of it
 abbrev pub book_of : {P B A : Type 0} → Auditor P B A → Option B
 book_of auditors.Nobody = None
-book_of (auditors.Lines k) = Some k.book
-book_of (auditors.Whole k) = Some k.book
+book_of (auditors.Lines k n) = Some k.book
+book_of (auditors.Whole k n) = Some k.book
 
 -- of no byte where it keeps none
 abbrev pub account_or_none : Option Account → Account
 account_or_none None = begun
 account_or_none (Some x) = x
 
--- the account of the stream s, of which t was written, by this; there is one, but where none is
--- kept
-abbrev pub Told : Way → List ℕ → List ℕ → Option Account → Type 0
-Told w s t None = w ≡ silent_way
-Told w s t (Some x) = (total x.sums ≡ length s) × IsToldBy w s t x
+-- the account of the stream s, of which t passed, by this, but that n bytes of t are overwritten;
+-- there is one, but where none is kept
+abbrev pub Told : Way → List ℕ → List ℕ → ℕ → Option Account → Type 0
+Told w s t n None = w ≡ silent_way
+Told w s t n (Some x) = (total x.sums ≡ length s)
+    × ((y : Account) × (x ≡ with_overwritten n y) × IsToldBy w s t y)
 
 -- These bytes have ended, and the auditor goes by the options and heard all of what they become,
 -- and the text of that: it has the account, and its book the entries, if there are not too many
@@ -76,7 +84,8 @@ Told w s t (Some x) = (total x.sums ≡ length s) × IsToldBy w s t x
 pub record IsAudited {P B A : Type 0} (V : Admitter P A) (W : Writer B A) (o : FilterOptions P)
     (auditor : Auditor P B A) (s : List ℕ) : Type 0 where
   pub told : IsCounted (decoded_stream o.encoding s)
-      → Told (way_by V o) (decoded_stream o.encoding s) (passed_of V o s) (account_of auditor)
+      → Told (way_by V o) (decoded_stream o.encoding s) (passed_of V o s) (lost_of_stream V o s)
+      (account_of auditor)
   pub heard : HeardAll V W auditor (decoded_stream o.encoding s) (passed_of V o s)
   pub way : way_of V auditor ≡ way_by V o
 

@@ -10,8 +10,8 @@ use Rattle.esc_sanitize.specs.Stages.{HasListened}
 use Rattle.esc_sanitize.specs.declared.auditor.Auditor.{Auditor}
 
 -- the reader gave some bytes, and the auditor, which goes by this, heard all of what they become
--- by this encoding, and this text of that
+-- by this encoding, and this text of that, of which so much is lost
 abbrev pub HasHeardAll : {P B R A : Type 0} → Admitter P A → Writer B A → Reader R → Encoding
-    → Way → (List ℕ → List ℕ) → Auditor P B A → Borrowed R → Type 0
-HasHeardAll V W R e w text auditor reader =
-    (s : List ℕ) × HasListened V W e w text auditor s × Reads R s reader
+    → Way → (List ℕ → List ℕ) → (List ℕ → ℕ) → Auditor P B A → Borrowed R → Type 0
+HasHeardAll V W R e w text lost auditor reader =
+    (s : List ℕ) × HasListened V W e w text lost auditor s × Reads R s reader

@@ -2,6 +2,7 @@ pub mod Defaults
 pub mod Fates
 pub mod Judged
 pub mod Written
+pub mod Overwritten
 pub mod Audits
 pub mod Chains
 pub mod Hearings

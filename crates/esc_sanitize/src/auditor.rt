@@ -1,9 +1,10 @@
 //! Whoever keeps the account of a stream, where there is one.
-ghost use Rattle.std.specs.Prelude.{◌≡◌, IfSome, MatchOption, None, Some, []};
+ghost use Rattle.std.specs.Prelude.{◌≡◌, ℕ, List, IfSome, MatchOption, None, Some, []};
+ghost use Rattle.esc_sanitize.specs.Overwritten.{moved, with_overwritten};
 
 use crate::judging::Judging;
 use crate::options::FilterOptions;
-use esc_account::{Account, Book, Ledger, LineLedger, Tap};
+use esc_account::{Account, Book, Ledger, LineLedger, Sums, Tap};
 use esc_filter::Admit;
 use std::alloc::{AllocError, Allocator, Global};
 
@@ -12,10 +13,10 @@ use std::alloc::{AllocError, Allocator, Global};
 pub enum Auditor<P, B, A: Allocator = Global> {
     /// None.
     Nobody,
-    /// Of a stream whose lines are streams of their own.
-    Lines(LineLedger<Judging<P, A>, B, A>),
-    /// Of a stream that is one.
-    Whole(Ledger<Judging<P, A>, B, A>),
+    /// The account by lines, each a stream of its own, and the number of bytes overwritten.
+    Lines(LineLedger<Judging<P, A>, B, A>, u64),
+    /// The account of the stream as a whole, and the number of bytes overwritten.
+    Whole(Ledger<Judging<P, A>, B, A>, u64),
 }
 
 impl<P: Admit<A> + Drop, B: Book<A> + Drop, A: Allocator + Copy> Auditor<P, B, A> {
@@ -33,9 +34,9 @@ impl<P: Admit<A> + Drop, B: Book<A> + Drop, A: Allocator + Copy> Auditor<P, B, A
         }
         let judge = Judging::new(alloc, options);
         if by_lines {
-            Auditor::Lines(LineLedger::new(alloc, judge, book))
+            Auditor::Lines(LineLedger::new(alloc, judge, book), 0)
         } else {
-            Auditor::Whole(Ledger::new(alloc, judge, book))
+            Auditor::Whole(Ledger::new(alloc, judge, book), 0)
         }
     }
 
@@ -47,8 +48,12 @@ impl<P: Admit<A> + Drop, B: Book<A> + Drop, A: Allocator + Copy> Auditor<P, B, A
     {
         match self {
             Auditor::Nobody => None,
-            Auditor::Lines(ledger) => Some((ledger.account(), ledger.book())),
-            Auditor::Whole(ledger) => Some((ledger.account(), ledger.book())),
+            Auditor::Lines(ledger, count) => {
+                Some((with_overwritten(ledger.account(), *count), ledger.book()))
+            }
+            Auditor::Whole(ledger, count) => {
+                Some((with_overwritten(ledger.account(), *count), ledger.book()))
+            }
         }
     }
 
@@ -56,8 +61,26 @@ impl<P: Admit<A> + Drop, B: Book<A> + Drop, A: Allocator + Copy> Auditor<P, B, A
     pub fn into_book(self) -> Option<B> {
         match self {
             Auditor::Nobody => None,
-            Auditor::Lines(ledger) => Some(ledger.into_book()),
-            Auditor::Whole(ledger) => Some(ledger.into_book()),
+            Auditor::Lines(ledger, _) => Some(ledger.into_book()),
+            Auditor::Whole(ledger, _) => Some(ledger.into_book()),
+        }
+    }
+}
+
+impl<P: Admit<A>, B: Book<A>, A: Allocator + Copy> Auditor<P, B, A> {
+    ghost use Rattle.esc_sanitize.specs.Audits.{HeardAll, HasNoted, way_of};
+
+    /// So many bytes are overwritten.
+    pub fn note(&mut self, count: u64)
+        ensures noted { HasNoted count self.new }
+        ensures heard { (s t : List ℕ) → HeardAll P.Admit B.Book self.old s t
+            → HeardAll P.Admit B.Book self.new s t }
+        ensures way { way_of P.Admit self.new ≡ way_of P.Admit self.old }
+    {
+        match self {
+            Auditor::Nobody => {}
+            Auditor::Lines(_, noted) => *noted = count,
+            Auditor::Whole(_, noted) => *noted = count,
         }
     }
 }
@@ -74,16 +97,43 @@ impl<P: Admit<A>, B: Book<A>, A: Allocator + Copy> Tap<A> for Auditor<P, B, A> {
     fn hear(&mut self, bytes: &[u8], text: &str) -> Result<(), AllocError> {
         match self {
             Auditor::Nobody => Ok(()),
-            Auditor::Lines(ledger) => ledger.hear(bytes, text),
-            Auditor::Whole(ledger) => ledger.hear(bytes, text),
+            Auditor::Lines(ledger, _) => ledger.hear(bytes, text),
+            Auditor::Whole(ledger, _) => ledger.hear(bytes, text),
         }
     }
 
     fn hear_end(&mut self, text: &str) -> Result<(), AllocError> {
         match self {
             Auditor::Nobody => Ok(()),
-            Auditor::Lines(ledger) => ledger.hear_end(text),
-            Auditor::Whole(ledger) => ledger.hear_end(text),
+            Auditor::Lines(ledger, _) => ledger.hear_end(text),
+            Auditor::Whole(ledger, _) => ledger.hear_end(text),
         }
+    }
+}
+
+// This account, where so many bytes are overwritten.
+fn with_overwritten(account: Account, count: u64) -> Account
+    ensures { result ≡ with_overwritten count account }
+{
+    Account {
+        sums: moved(account.sums, count),
+        ..account
+    }
+}
+
+// So many bytes are overwritten: of those that passed, that are shown, and that are replaced.
+fn moved(sums: Sums, count: u64) -> Sums
+    ensures { result ≡ moved count sums }
+{
+    let past_passed = count.saturating_sub(sums.passed);
+    let past_shown = past_passed.saturating_sub(sums.shown);
+    let past_replaced = past_shown.saturating_sub(sums.replaced);
+    let moved = count.saturating_sub(past_replaced);
+    Sums {
+        passed: sums.passed.saturating_sub(count),
+        shown: sums.shown.saturating_sub(past_passed),
+        replaced: sums.replaced.saturating_sub(past_shown),
+        overwritten: sums.overwritten.saturating_add(moved),
+        ..sums
     }
 }

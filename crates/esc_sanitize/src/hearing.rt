@@ -20,7 +20,7 @@ pub struct Hearing<F, P, B, A: Allocator = Global> {
 
 impl<F: StreamFilter<A>, P: Admit<A>, B: Book<A>, A: Allocator + Copy> Hearing<F, P, B, A> {
     ghost use Rattle.esc_sanitize.specs.Chains.{Begins};
-    ghost use Rattle.esc_sanitize.specs.Audits.{Heard, way_by, way_of};
+    ghost use Rattle.esc_sanitize.specs.Audits.{Heard, HasNoted, way_by, way_of};
     ghost use Rattle.esc_sanitize.specs.Hearings.{Follows, HasHeard, heard_added};
     ghost use Rattle.esc_sanitize.specs.Written.{closed_of, opened_of, passed_of, passing_of};
 
@@ -74,6 +74,17 @@ impl<F: StreamFilter<A>, P: Admit<A>, B: Book<A>, A: Allocator + Copy> Hearing<F
     {
         self.decoding.finish_all()?;
         self.auditor.hear_end(self.decoding.output_text())
+    }
+
+    /// So many bytes are overwritten.
+    pub fn note(&mut self, count: u64)
+        ensures heard { (s : List ℕ) → HasHeard P.Admit B.Book self.old s
+            → HasHeard P.Admit B.Book self.new s }
+        ensures noted { HasNoted count self.new.auditor }
+        ensures same { (self.new.options ≡ self.old.options)
+            × (self.new.decoding ≡ self.old.decoding) }
+    {
+        self.auditor.note(count);
     }
 
     /// The text that the last call added.

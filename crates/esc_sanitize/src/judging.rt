@@ -71,6 +71,13 @@ impl<P: Admit<A>, A: Allocator + Copy> Judge<A> for Judging<P, A> {
     fn passing(&self, before: Option<char>, bytes: &[u8]) -> (usize, Option<char>) {
         self.policy.passing(before, bytes)
     }
+
+    fn left_ahead(&self, bytes: &[u8]) -> usize {
+        if self.show.is_some() {
+            return 0;
+        }
+        self.policy.left_ahead(bytes)
+    }
 }
 
 // What becomes of a segment of these bytes, where what is not in the output may be shown.

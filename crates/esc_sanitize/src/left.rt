@@ -15,14 +15,16 @@ pub enum Left<A: Allocator = Global> {
     All,
     /// What is left of its lines.
     Rows(A, LineCollapser<A>),
-    /// The same of a text that has ended: what its end added.
-    Last(String<A>),
+    /// The same of a text that has ended: what its end added, and how much of what was printed
+    /// stands in no row, if that is counted.
+    Last(String<A>, u64),
     /// Nothing, since memory for its rows was refused.
     Refused,
 }
 
 impl<A: Allocator + Copy> Left<A> {
-    ghost use Rattle.esc_sanitize.specs.Rows.{HasLeft, left_added};
+    ghost use Rattle.esc_sanitize.specs.Overwritten.{lost_in};
+    ghost use Rattle.esc_sanitize.specs.Rows.{HasLeft, left_added, left_lost};
     ghost use Rattle.esc_sanitize.specs.Written.{final_text, left_text};
 
     /// The beginning of a text. The rows that this screen leaves of it are written, or without a
@@ -51,7 +53,7 @@ impl<A: Allocator + Copy> Left<A> {
         match self {
             Left::All => Ok(()),
             Left::Rows(_, collapse) => collapse.feed(text.as_bytes()),
-            Left::Last(_) | Left::Refused => Err(AllocError),
+            Left::Last(_, _) | Left::Refused => Err(AllocError),
         }
     }
 
@@ -60,6 +62,8 @@ impl<A: Allocator + Copy> Left<A> {
         ensures ended { (r : Option Size) (u : List ℕ) → HasLeft r u self.old
             → OnOk result (left_text A r (u ++ text.now) ≡ final_text A r u
             ++ left_added self.new text.now) }
+        ensures lost { (r : Option Size) (u : List ℕ) → HasLeft r u self.old
+            → OnOk result (left_lost self.new ≡ lost_in A r (u ++ text.now)) }
         ensures refused { (r : Option Size) (u : List ℕ) → HasLeft r u self.old
             → OnErr result (Refused A) }
     {
@@ -67,10 +71,20 @@ impl<A: Allocator + Copy> Left<A> {
             Left::All => Ok(()),
             Left::Rows(alloc, collapse) => {
                 let last = last_text(*alloc, collapse, text)?;
-                *self = Left::Last(last);
+                *self = Left::Last(last, collapse.lost());
                 Ok(())
             }
-            Left::Last(_) | Left::Refused => Err(AllocError),
+            Left::Last(_, _) | Left::Refused => Err(AllocError),
+        }
+    }
+
+    /// How much of a text that has ended stands in no row, if that is counted.
+    pub fn lost(&self) -> u64
+        ensures { result ≡ left_lost self.now }
+    {
+        match self {
+            Left::Last(_, lost) => *lost,
+            _ => 0,
         }
     }
 
@@ -81,7 +95,7 @@ impl<A: Allocator + Copy> Left<A> {
         match self {
             Left::All => text,
             Left::Rows(_, collapse) => collapse.added(),
-            Left::Last(last) => last.as_str(),
+            Left::Last(last, _) => last.as_str(),
             Left::Refused => "",
         }
     }
@@ -95,6 +109,8 @@ fn last_text<A: Allocator + Copy>(
 ) -> Result<String<A>, AllocError>
     ensures ended { (z : Size) (u : List ℕ) → HasConsumed z u collapse.old → IfOk result (λ t.
         left_of z (values_of A (u ++ text.now)) ≡ final_of z (values_of A u) ++ string_bytes t) }
+    ensures fed { (z : Size) (u : List ℕ) → HasConsumed z u collapse.old
+        → OnOk result (HasConsumed z (u ++ text.now) collapse.new) }
     ensures refused { (z : Size) (u : List ℕ) → HasConsumed z u collapse.old
         → OnErr result (Refused A) }
 {

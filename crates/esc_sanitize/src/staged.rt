@@ -18,8 +18,8 @@ pub struct Staged<F, P, B, A: Allocator = Global> {
 }
 
 impl<F: StreamFilter<A>, P: Admit<A>, B: Book<A>, A: Allocator + Copy> Staged<F, P, B, A> {
-    ghost use Rattle.esc_sanitize.specs.Hearings.{Follows, HasHeard};
-    ghost use Rattle.esc_sanitize.specs.Stages.{Runs, options_of, staged_added};
+    ghost use Rattle.esc_sanitize.specs.Hearings.{Follows};
+    ghost use Rattle.esc_sanitize.specs.Stages.{HasFinished, Runs, options_of, staged_added};
     ghost use Rattle.esc_sanitize.specs.Written.{going_of, passing_of, text_of};
 
     /// This filter, which is at the beginning of a stream.
@@ -49,7 +49,7 @@ impl<F: StreamFilter<A>, P: Admit<A>, B: Book<A>, A: Allocator + Copy> Staged<F,
     /// Ends the stream.
     pub fn finish(&mut self) -> Result<(), AllocError>
         ensures ended { (s : List ℕ) → Runs F.StreamFilter P.Admit B.Book self.old s
-            → OnOk result (HasHeard P.Admit B.Book self.new.hearing s
+            → OnOk result (HasFinished P.Admit B.Book self.new s
             × (text_of P.Admit (options_of self.old) s
             ≡ going_of P.Admit (options_of self.old) s ++ staged_added F.StreamFilter self.new)) }
         ensures refused { (s : List ℕ) → Runs F.StreamFilter P.Admit B.Book self.old s
@@ -57,7 +57,9 @@ impl<F: StreamFilter<A>, P: Admit<A>, B: Book<A>, A: Allocator + Copy> Staged<F,
         ensures options { options_of self.new ≡ options_of self.old }
     {
         self.hearing.finish()?;
-        self.left.close(self.hearing.output_text())
+        self.left.close(self.hearing.output_text())?;
+        self.hearing.note(self.left.lost());
+        Ok(())
     }
 
     /// The text that the last call added.
@@ -70,14 +72,13 @@ impl<F: StreamFilter<A>, P: Admit<A>, B: Book<A>, A: Allocator + Copy> Staged<F,
 
 impl<F: StreamFilter<A>, P: Admit<A>, B: Book<A>, A: Allocator + Copy> StreamFilter<A>
     for Staged<F, P, B, A> {
-    ghost use Rattle.esc_sanitize.specs.Hearings.{HasHeard};
-    ghost use Rattle.esc_sanitize.specs.Stages.{Gives, staged_added};
+    ghost use Rattle.esc_sanitize.specs.Stages.{Gives, HasFinished, staged_added};
 
     ghost gives = { λ f m c s. Gives F.StreamFilter P.Admit B.Book f m c s };
 
     ghost added = { λ f. staged_added F.StreamFilter f };
 
-    ghost has_ended = { λ f _ s. HasHeard P.Admit B.Book f.hearing s };
+    ghost has_ended = { λ f _ s. HasFinished P.Admit B.Book f s };
 
     fn feed_chunk(&mut self, bytes: &[u8]) -> Result<(), AllocError> {
         self.feed(bytes)

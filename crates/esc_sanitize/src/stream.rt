@@ -4,6 +4,7 @@ ghost use Rattle.fallible_alloc.specs.Refusals.{Refused};
 ghost use Rattle.esc_normal.specs.Streams.{Filters, IsEither};
 ghost use Rattle.esc_sanitize.specs.Audits.{HasAccount, way_by};
 ghost use Rattle.esc_sanitize.specs.Ended.{HasHeardAll};
+ghost use Rattle.esc_sanitize.specs.Overwritten.{lost_of_stream};
 ghost use Rattle.esc_sanitize.specs.Stages.{Runs, options_of};
 ghost use Rattle.esc_sanitize.specs.Written.{IsOfTokens, IsWritten, going_of, passed_of, text_of};
 
@@ -87,13 +88,14 @@ fn told<
     requires { Runs F.StreamFilter P.Admit B.Book staged []
         × ((options_of staged).encoding ≡ N.encoding)
         × (way_by P.Admit (options_of staged) ≡ N.way)
-        × ((s : List ℕ) → passed_of P.Admit (options_of staged) s ≡ N.text s) }
+        × ((s : List ℕ) → passed_of P.Admit (options_of staged) s ≡ N.text s)
+        × ((s : List ℕ) → lost_of_stream P.Admit (options_of staged) s ≡ N.lost s) }
     ensures holds { Filters R.Read W.Write (text_of P.Admit (options_of staged))
         (IsEither (text_of P.Admit (options_of staged)) (going_of P.Admit (options_of staged)))
         result.outcome reader writer }
     ensures refused { IsErrOf result.outcome FilterError.Memory → Refused A }
     ensures heard { OnOk result.outcome (HasHeardAll P.Admit B.Book R.Read N.encoding N.way N.text
-        result.auditor reader) }
+        N.lost result.auditor reader) }
 {
     let mut filter = Told::<_, _, _, N, _>::new(staged);
     let outcome = pump(alloc, &mut filter, reader, writer);

@@ -21,6 +21,9 @@ pub trait Known {
 
     // the text of what passes of a stream that has ended
     ghost text: { List ℕ → List ℕ };
+
+    // how much of that is lost
+    ghost lost: { List ℕ → ℕ };
 }
 
 impl Known for Brand {
@@ -29,6 +32,8 @@ impl Known for Brand {
     ghost way = { silent_way };
 
     ghost text = { λ s. s };
+
+    ghost lost = { λ _. 0 };
 }
 
 /// A filter with its auditor, whose options say this.
@@ -63,12 +68,12 @@ impl<F: StreamFilter<A>, P: Admit<A>, B: Book<A>, N: Known, A: Allocator + Copy>
     ghost use Rattle.esc_sanitize.specs.Stages.{HasListened, IsRun, auditor_of, staged_added};
 
     ghost gives = { λ f m c s.
-        IsRun F.StreamFilter P.Admit B.Book N.encoding N.way N.text f.staged m c s };
+        IsRun F.StreamFilter P.Admit B.Book N.encoding N.way N.text N.lost f.staged m c s };
 
     ghost added = { λ f. staged_added F.StreamFilter f.staged };
 
     ghost has_ended = { λ f _ s.
-        HasListened P.Admit B.Book N.encoding N.way N.text (auditor_of f.staged) s };
+        HasListened P.Admit B.Book N.encoding N.way N.text N.lost (auditor_of f.staged) s };
 
     fn feed_chunk(&mut self, bytes: &[u8]) -> Result<(), AllocError> {
         self.staged.feed(bytes)

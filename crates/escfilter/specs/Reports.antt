@@ -10,6 +10,7 @@ use Rattle.esc_decode.specs.Decodings.{decoded_stream}
 use Rattle.esc_filter.specs.declared.admit.Admit.{Ghosts as Admitter}
 use Rattle.esc_normal.specs.Io.{Borrowed, Reads}
 use Rattle.esc_sanitize.specs.Audits.{IsAudited, Told, way_by}
+use Rattle.esc_sanitize.specs.Overwritten.{lost_of_stream}
 use Rattle.esc_sanitize.specs.Written.{passed_of}
 use Rattle.esc_sanitize.specs.declared.auditor.Auditor.{Auditor}
 use Rattle.escfilter.specs.Choices.{admits_choice}
@@ -36,11 +37,11 @@ books = record { was_given = HasRows }
 abbrev pub HasAudited : Options → Auditor Choice Rows Global → List ℕ → Type 0
 HasAudited o auditor s = IsAudited choices books o.filter auditor s
 
--- x is the account of the stream s by the options: of what it becomes by its encoding, and of what
--- passes of that
+-- x is the account of the stream s by the options: of what it becomes by its encoding, of what
+-- passes of that, and of how much of that stands in no row
 abbrev pub IsAccountOf : Options → List ℕ → Account → Type 0
 IsAccountOf o s x = Told (way_by choices o.filter) (decoded_stream o.filter.encoding s)
-    (passed_of choices o.filter s) (Some x)
+    (passed_of choices o.filter s) (lost_of_stream choices o.filter s) (Some x)
 
 -- a report in this form, if any, has a line of each stream
 abbrev pub is_json : Option Form → Bool

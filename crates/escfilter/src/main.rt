@@ -105,9 +105,9 @@ leaves on, as colours or a link, is taken back at its end, and at each line's wi
   --report-to f   writes the report to the file f, in place of standard error
   --events f      writes to the file f a line of JSON for each thing that did not pass, with
                   its place and its bytes
-  --fail          ends with status 3 where anything was shown, replaced, left out or swallowed;
-                  --fail=left-out,swallowed where a byte had one of these fates; respelled,
-                  shown, replaced and overwritten are others
+  --fail          ends with status 3 where anything was shown, replaced, left out, swallowed or
+                  overwritten (by --collapse); --fail=left-out,swallowed where a byte had one of
+                  these fates; respelled, shown, replaced and overwritten are others
   --list          writes the names of the files in which --fail finds something, a line each,
                   in place of what passes
   -z, --null      ends each name with a zero byte, for xargs -0

@@ -104,7 +104,7 @@ impl<'a> Settings<'a> {
             },
             encoding: self.encoding(),
             show: self.show,
-            window: self.window(characters),
+            window: self.window(characters, audits),
             audits,
         }
     }
@@ -122,10 +122,14 @@ impl<'a> Settings<'a> {
     }
 
     // The screen that the text is collapsed on. It gets the treatment of characters too, since text
-    // that is written over may put another character before one.
-    fn window(self, characters: Unicode) -> Option<Window> {
+    // that is written over may put another character before one. For an account it counts the bytes
+    // that are overwritten.
+    fn window(self, characters: Unicode, audits: bool) -> Option<Window> {
         match self.rows {
-            Some(rows) => Some(Window::new(rows, self.columns.unwrap_or(COLUMNS), characters)),
+            Some(rows) => Some(Window {
+                counts: audits,
+                ..Window::new(rows, self.columns.unwrap_or(COLUMNS), characters)
+            }),
             None => None,
         }
     }

@@ -52,7 +52,7 @@ closes_on k g n count p m q s all is took old back =
 
 -- ---- the screen of a terminal
 
-some_same : {X : Type 0} (x y : X) → Some x ≡ Some y → x ≡ y
+pub some_same : {X : Type 0} (x y : X) → Some x ≡ Some y → x ≡ y
 some_same x y e = cc
 
 pub has_screen : {A : Type 0} (z : Size) (s : List ℕ) (o : Option (State A)) → None ≡ screen_in o

@@ -1,4 +1,6 @@
 mod Closing
 mod Rows
+mod Taken
+mod Losing
 pub mod Streams
 mod Texts

@@ -1,6 +1,7 @@
 -- What rows were given of values.
-use Rattle.std.proofs.Common.{ℕ, ◌≡◌, List, [], ◌++◌, Some, max, refl, ap, sym, subst, ◌∙◌, append_assoc}
+use Rattle.std.proofs.Common.{ℕ, ◌≡◌, List, [], ◌++◌, Option, Some, is_some, max, refl, ap, sym, subst, ◌∙◌, append_assoc}
 use Rattle.std.specs.List.{FoldsTo}
+use Rattle.text_tally.specs.declared.tally.Tally.{Tally}
 use Rattle.esc_actions.proofs.Meanings.{meaning_nil}
 use Rattle.esc_actions.specs.Meaning.{yield_within}
 use Rattle.esc_terminal.specs.Fed.{for_log, HasConsumed as TerminalHasConsumed}
@@ -15,7 +16,9 @@ use Rattle.screen_lines.specs.declared.lines.Lines.{Lines}
 use Rattle.screen_lines.proofs.Growing.{emptied_after, rows_more, rows_taken, text_after}
 use Rattle.line_collapse.specs.Fed.{Closes, HasConsumed, HasWritten, final_after, left_after}
 use Rattle.line_collapse.specs.Streams.{final_of, final_out, left_of, left_rows, open_of, shown_by_all, values_of}
+use Rattle.line_collapse.specs.Taken.{IsCounted}
 use Rattle.line_collapse.specs.Windows.{Size, screen_of}
+use Rattle.line_collapse.proofs.Taken.{first_counted}
 
 -- what comes after a stream scrolls off these rows
 abbrev rows_of : (A : Type 0) → Size → List ℕ → List ℕ → List Row
@@ -42,14 +45,16 @@ pub nothing_final : (A : Type 0) (z : Size)
 nothing_final A z = ap (final_out z) (meaning_nil {A = A} (Some 0x1000))
 
 -- at the beginning of a stream
-pub first_fed : {A : Type 0} (z : Size) (t : Terminal A) (p : Lines A) (columns rows : ℕ)
-    → columns ≡ max z.columns 1 → rows ≡ max z.rows 1
+pub first_fed : {A : Type 0} (z : Size) (t : Terminal A) (p : Lines A) (o : Option (Tally A))
+    (columns rows : ℕ) → columns ≡ max z.columns 1 → rows ≡ max z.rows 1
     → TerminalHasConsumed (for_log columns rows) [] t → out_of p ≡ first_out z.characters
-    → HasConsumed z [] (record { terminal = t; lines = Some p })
-first_fed {A} z t p columns rows c r fed is = record {
+    → (is_some o ≡ z.counts) × IsCounted rows columns [] [] o
+    → HasConsumed z [] (record { terminal = t; lines = Some p; tally = o })
+first_fed {A} z t p o columns rows c r fed is counted = record {
   terminal = subst (λ n. TerminalHasConsumed (for_log n (max z.rows 1)) [] t) c
       (subst (λ n. TerminalHasConsumed (for_log columns n) [] t) r fed);
   lines = ap emptied_out (is ∙ sym (nothing_final A z));
+  tally = first_counted z o columns rows c r counted;
 }
 
 -- lines that took these rows

@@ -1,5 +1,6 @@
 -- What rows were given.
 use Rattle.std.specs.Prelude.{ℕ, ◌≡◌, List, [], ◌++◌, IsSomeAnd, None, Option, Some}
+use Rattle.text_tally.specs.declared.tally.Tally.{Tally}
 use Rattle.esc_normal.specs.declared.feeding.StreamFilter.{Ghosts as Feeder}
 use Rattle.esc_terminal.specs.Fed.{HasConsumed as TerminalHasConsumed}
 use Rattle.esc_screen.specs.Grids.{Grid}
@@ -10,7 +11,9 @@ use Rattle.screen_lines.specs.Pieces.{emptied_out}
 use Rattle.screen_lines.specs.Rows.{out_by_rows}
 use Rattle.screen_lines.specs.Written.{out_of, text_of}
 use Rattle.screen_lines.specs.declared.lines.Lines.{Lines}
+use Rattle.line_collapse.specs.Lost.{final_cells}
 use Rattle.line_collapse.specs.Streams.{final_of, final_out, left_of, rows_left, values_of}
+use Rattle.line_collapse.specs.Taken.{IsCountedBy}
 use Rattle.line_collapse.specs.Windows.{Size, screen_of}
 use Rattle.line_collapse.specs.declared.collapse.LineCollapser.{LineCollapser}
 use Rattle.line_collapse.specs.declared.collapsing.Collapsing.{Collapsing}
@@ -23,6 +26,14 @@ HasWritten {A} z s p = emptied_out (out_of p) ≡ emptied_out (final_out z (valu
 pub record HasConsumed {A : Type 0} (z : Size) (s : List ℕ) (c : LineCollapser A) : Type 0 where
   pub terminal : TerminalHasConsumed (screen_of z) s c.terminal
   pub lines : IsSomeAnd c.lines (HasWritten z s)
+  pub tally : IsCountedBy z s (final_cells A z s) c.tally
+
+-- before the text b, which was counted: these lines, with no text, were fed s, and where z counts,
+-- this tally counted b too
+pub record Stands {A : Type 0} (z : Size) (s b : List ℕ) (p : Lines A) (o : Option (Tally A))
+    : Type 0 where
+  pub lines : out_of p ≡ emptied_out (final_out z (values_of A s))
+  pub tally : IsCountedBy z (s ++ b) (final_cells A z s) o
 
 -- The text grows by the rows that are left on a screen, of which so much is known, and nothing else
 -- changes.

@@ -1,3 +1,5 @@
 pub mod Windows
 pub mod Streams
+pub mod Taken
+pub mod Lost
 pub mod Fed

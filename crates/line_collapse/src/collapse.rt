@@ -1,4 +1,4 @@
-//! What is left of the lines of a stream.
+//! The rows that are left of the lines of a stream.
 ghost use Rattle.std.specs.Prelude.{◌≡◌, ◌++◌, ℕ, List, [], IfOk, IsErr, OnErr, OnOk, max};
 ghost use Rattle.esc_screen.specs.Grids.{Size};
 ghost use Rattle.esc_terminal.specs.Fed.{HasConsumed as TerminalHasConsumed};
@@ -7,16 +7,20 @@ ghost use Rattle.esc_screen.specs.Screens.{grid_of};
 ghost use Rattle.esc_terminal.specs.Links.{known_of};
 ghost use Rattle.line_collapse.specs.Fed.{Closes, ClosesOn};
 ghost use Rattle.line_collapse.specs.Streams.{final_of, left_of, open_of, values_of};
-ghost use Rattle.line_collapse.specs.Windows.{window_size};
+ghost use Rattle.line_collapse.specs.Lost.{lost_by};
+ghost use Rattle.line_collapse.specs.Windows.{Size as Bounds, screen_of, window_size};
 ghost use Rattle.fallible_alloc.specs.Refusals.{Refused};
 
+use crate::lost::lost_on;
 use crate::seen::count_left;
+use crate::taking::{Taking, printed, tally_if};
 use crate::window::Window;
 use esc_filter::Unicode;
 use esc_screen::Screen;
 use esc_terminal::{Rows, Styles, Terminal};
 use screen_lines::Lines;
 use std::alloc::{AllocError, Allocator, Global};
+use text_tally::Tally;
 
 /// Takes a stream in whatever pieces it comes, and gives for each the text of the rows that became
 /// final: those that no longer may be written again.
@@ -27,19 +31,29 @@ use std::alloc::{AllocError, Allocator, Global};
 pub struct LineCollapser<A: Allocator = Global> {
     terminal: Terminal<A>,
     lines: Option<Lines<A>>,
+    // where it counts
+    tally: Option<Tally<A>>,
 }
 
 impl<A: Allocator + Copy> LineCollapser<A> {
-    ghost use Rattle.line_collapse.specs.Fed.{After, IsBroken, TakesIn, HasConsumed, added_by};
+    ghost use Rattle.line_collapse.specs.Fed.{After, IsBroken, Stands, TakesIn, HasConsumed, added_by};
 
     /// A collapse at the beginning of a stream, on a screen of so many rows and columns: 0 is taken
-    /// for 1, and more than 65,535 for so many. Characters that deceive are written as they are.
+    /// for 1, and more than 65,535 for so many. Characters that deceive are written as they are,
+    /// and no text is counted.
     pub fn new(alloc: A, rows: usize, columns: usize) -> Result<LineCollapser<A>, AllocError>
         ensures fed { IfOk result (λ c. HasConsumed (window_size (max rows 1) columns) [] c) }
         ensures empty { IfOk result (λ c. added_by c ≡ []) }
         ensures refused { OnErr result (Refused A) }
     {
-        LineCollapser::on(alloc, Window::new(rows.max(1), columns, Unicode::Keep))
+        let window = Window::new(rows.max(1), columns, Unicode::Keep);
+        LineCollapser::on(
+            alloc,
+            Window {
+                counts: false,
+                ..window
+            },
+        )
     }
 
     /// A collapse at the beginning of a stream, on this screen.
@@ -48,10 +62,13 @@ impl<A: Allocator + Copy> LineCollapser<A> {
         ensures empty { IfOk result (λ c. added_by c ≡ []) }
         ensures refused { OnErr result (Refused A) }
     {
-        let terminal = Terminal::for_log(alloc, window.columns.max(1), window.rows.max(1))?;
+        let rows = window.rows.max(1);
+        let columns = window.columns.max(1);
+        let terminal = Terminal::for_log(alloc, columns, rows)?;
         Ok(LineCollapser {
             terminal,
             lines: Some(Lines::new(alloc, window.characters)),
+            tally: tally_if(alloc, window.counts, rows, columns),
         })
     }
 
@@ -69,10 +86,33 @@ impl<A: Allocator + Copy> LineCollapser<A> {
         let Some(lines) = self.lines.take() else {
             return Err(AllocError);
         };
-        let (result, lines) = self.terminal.feed_into(text, lines.cleared());
+        match printed(self.tally.take(), text) {
+            Ok(tally) => self.take_counted(text, lines.cleared(), tally),
+            Err(error) => Err(error),
+        }
+    }
+
+    // Takes text that was counted, where it counts. There are no lines.
+    fn take_counted(
+        &mut self,
+        text: &[u8],
+        lines: Lines<A>,
+        tally: Option<Tally<A>>,
+    ) -> Result<(), AllocError>
+        ensures given { (z : Bounds) (s : List ℕ) → TerminalHasConsumed (screen_of z) s
+            self.old.terminal → Stands z s text.now lines tally
+            → OnOk result (TakesIn z s text.now self.new) }
+        ensures refused { (z : Bounds) (s : List ℕ) → TerminalHasConsumed (screen_of z) s
+            self.old.terminal → OnErr result (Refused A) }
+        ensures broken { OnErr result (self.new.lines ≡ self.old.lines) }
+    {
+        let taking = Taking { lines, tally };
+        let (result, taking) = self.terminal.feed_into(text, taking);
+        let Taking { lines, tally } = taking;
         match result {
             Ok(()) => {
                 self.lines = Some(lines);
+                self.tally = tally;
                 Ok(())
             }
             Err(_) => Err(AllocError),
@@ -112,6 +152,25 @@ impl<A: Allocator + Copy> LineCollapser<A> {
         let lines = closed(&self.terminal, lines)?;
         self.lines = Some(lines);
         Ok(())
+    }
+
+    /// How much of the text that the stream printed so far stands in no row that is final or is
+    /// left now, if its window counts that; else 0. It is how many bytes or characters these rows
+    /// have less than were printed, whichever is more, up to all bytes that were printed. REP and
+    /// DECALN print too: so many characters, but no bytes.
+    pub fn lost(&self) -> u64
+        ensures { After self.now (λ z s. result ≡ lost_by z (values_of A s)) }
+    {
+        let Some(tally) = &self.tally else {
+            return 0;
+        };
+        let Some(screen) = self.terminal.screen() else {
+            return 0;
+        };
+        let Some(styles) = self.terminal.styles() else {
+            return 0;
+        };
+        lost_on(tally, screen, styles)
     }
 
     /// The text that the last call added.

@@ -19,7 +19,9 @@ pub mod collapse;
 pub mod collapsing;
 mod filtering;
 mod laws;
+mod lost;
 mod seen;
+mod taking;
 pub mod window;
 
 pub use collapse::LineCollapser;

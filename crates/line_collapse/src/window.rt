@@ -17,12 +17,14 @@ pub struct Window {
     pub columns: u16,
     /// What is written of characters that deceive.
     pub characters: Unicode,
+    /// Whether the text is counted that is printed and stands in no row at last.
+    pub counts: bool,
 }
 
 impl Window {
     /// One of so many rows and columns, of which more than 65,535 are taken for so many, and this
-    /// is written of characters that deceive. The screen is made at once, so its memory is rows
-    /// times columns.
+    /// is written of characters that deceive. Its text is counted. The screen is made at once, so
+    /// its memory is rows times columns.
     pub fn new(rows: usize, columns: usize, characters: Unicode) -> Window
         ensures { result ≡ window_of rows columns characters }
     {
@@ -30,6 +32,7 @@ impl Window {
             rows: rows.min(0xffff) as u16,
             columns: columns.min(0xffff) as u16,
             characters,
+            counts: true,
         }
     }
 }

@@ -18,3 +18,10 @@ returns-clause-ended g c = λ z u fed.
     ∙ ap (λ x. x ++ c.added.result.now) c.new-last.ensures.bytes ∙ c.added.ensures)
     ∙ ap (λ x. first ++ x) (c.added-2.ensures ∙ m.1) in
     ap (λ x. x ++ rest) k.1 ∙ append_assoc final first rest ∙ ap (λ x. final ++ x) (sym whole)
+
+pub returns-clause-fed : goal.returns-clause-fed
+returns-clause-fed g c = λ z u fed.
+    let t = c.args.text.now in
+    let same : c.as_bytes.result.now ≡ t = search rules in
+    let k = subst (λ x. TakesIn z u x c.feed.new.self) same (c.in_ok-feed.ensures.given z u fed) in
+    (c.in_ok-finish.ensures.ended z (u ++ t) k.0).0

@@ -7,7 +7,8 @@ use Rattle.esc_sanitize.specs.Stages.{options_of}
 use Rattle.esc_sanitize.proofs.stream.sanitize_stream.Goals as goal
 
 pub told-requires : goal.told-requires
-told-requires g c = (c.sanitizing-staged.ensures.begins c.requires, refl, refl, λ s. refl)
+told-requires g c =
+    (c.sanitizing-staged.ensures.begins c.requires, refl, refl, λ s. refl, λ s. refl)
 
 pub returns-clause-holds : goal.returns-clause-holds
 returns-clause-holds g c =
@@ -44,5 +45,5 @@ returns-clause-account g c =
       h.2,
       subst (λ o. IsAudited V g.B.Book o c.told.result.auditor h.0)
           c.sanitizing-staged.ensures.options
-          (audited V g.B.Book k c.told.result.auditor h.0 h.1.0 h.1.1),
+          (audited V g.B.Book k c.told.result.auditor h.0 h.1.0 h.1.1 h.1.2),
     )) c.told.ensures.heard

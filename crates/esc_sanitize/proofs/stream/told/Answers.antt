@@ -10,7 +10,8 @@ returns-clause-holds g c =
     let V = g.P.Admit in
     let n = g.N.Known in
     let o = options_of c.args.staged in
-    let is = subst (λ k. IsRun g.F.StreamFilter V g.B.Book n.encoding n.way n.text k (going_of V o)
+    let is = subst (λ k. IsRun g.F.StreamFilter V g.B.Book n.encoding n.way n.text n.lost k
+    (going_of V o)
     (text_of V o) []) (sym c.new-filter.ensures) (record {
       runs = c.requires.0;
       goes_on = λ x. refl;
@@ -18,11 +19,14 @@ returns-clause-holds g c =
       coding = c.requires.1;
       way = c.requires.2;
       passed = c.requires.3;
+      losing = c.requires.4;
     }) in
     let f = c.pump-outcome.ensures.holds (going_of V o) (text_of V o) is
-    (run_none g.F.StreamFilter V g.B.Book n.encoding n.way n.text (going_of V o) (text_of V o) _ []
+    (run_none g.F.StreamFilter V g.B.Book n.encoding n.way n.text (going_of V o) (text_of V o)
+    n.lost _ []
     is)
-    (run_closed g.F.StreamFilter V g.B.Book n.encoding n.way n.text (going_of V o) (text_of V o) _
+    (run_closed g.F.StreamFilter V g.B.Book n.encoding n.way n.text (going_of V o) (text_of V o)
+    n.lost _
     []
     is) in
     record {
@@ -41,7 +45,8 @@ returns-clause-refused g c =
     let V = g.P.Admit in
     let n = g.N.Known in
     let o = options_of c.args.staged in
-    let is = subst (λ k. IsRun g.F.StreamFilter V g.B.Book n.encoding n.way n.text k (going_of V o)
+    let is = subst (λ k. IsRun g.F.StreamFilter V g.B.Book n.encoding n.way n.text n.lost k
+    (going_of V o)
     (text_of V o) []) (sym c.new-filter.ensures) (record {
       runs = c.requires.0;
       goes_on = λ x. refl;
@@ -49,11 +54,14 @@ returns-clause-refused g c =
       coding = c.requires.1;
       way = c.requires.2;
       passed = c.requires.3;
+      losing = c.requires.4;
     }) in
     c.pump-outcome.ensures.refused (going_of V o) (text_of V o) is
-    (run_none g.F.StreamFilter V g.B.Book n.encoding n.way n.text (going_of V o) (text_of V o) _ []
+    (run_none g.F.StreamFilter V g.B.Book n.encoding n.way n.text (going_of V o) (text_of V o)
+    n.lost _ []
     is)
-    (run_closed g.F.StreamFilter V g.B.Book n.encoding n.way n.text (going_of V o) (text_of V o) _
+    (run_closed g.F.StreamFilter V g.B.Book n.encoding n.way n.text (going_of V o) (text_of V o)
+    n.lost _
     []
     is)
 
@@ -62,7 +70,8 @@ returns-clause-heard g c =
     let V = g.P.Admit in
     let n = g.N.Known in
     let o = options_of c.args.staged in
-    let is = subst (λ k. IsRun g.F.StreamFilter V g.B.Book n.encoding n.way n.text k (going_of V o)
+    let is = subst (λ k. IsRun g.F.StreamFilter V g.B.Book n.encoding n.way n.text n.lost k
+    (going_of V o)
     (text_of V o) []) (sym c.new-filter.ensures) (record {
       runs = c.requires.0;
       goes_on = λ x. refl;
@@ -70,17 +79,20 @@ returns-clause-heard g c =
       coding = c.requires.1;
       way = c.requires.2;
       passed = c.requires.3;
+      losing = c.requires.4;
     }) in
     on_ok_more _ _ c.pump-outcome.result
     (λ h. (
       h.0,
-      subst (λ a. HasListened V g.B.Book n.encoding n.way n.text a h.0)
+      subst (λ a. HasListened V g.B.Book n.encoding n.way n.text n.lost a h.0)
           (sym c.into_auditor.ensures) h.1,
       h.2,
     ))
     (c.pump-outcome.ensures.ended (going_of V o) (text_of V o) is
-    (run_none g.F.StreamFilter V g.B.Book n.encoding n.way n.text (going_of V o) (text_of V o) _ []
+    (run_none g.F.StreamFilter V g.B.Book n.encoding n.way n.text (going_of V o) (text_of V o)
+    n.lost _ []
     is)
-    (run_closed g.F.StreamFilter V g.B.Book n.encoding n.way n.text (going_of V o) (text_of V o) _
+    (run_closed g.F.StreamFilter V g.B.Book n.encoding n.way n.text (going_of V o) (text_of V o)
+    n.lost _
     []
     is))

@@ -1,7 +1,8 @@
-use Rattle.std.proofs.Common.{◌≡◌, ◌++◌, subst, sym}
+use Rattle.std.proofs.Common.{◌≡◌, ◌++◌, refl, subst, sym}
 use Rattle.esc_sanitize.proofs.Following.{on_err_any}
 use Rattle.esc_sanitize.proofs.Texts.{all_ended, rows_ended}
-use Rattle.esc_sanitize.specs.Rows.{HasLeft, left_added}
+use Rattle.esc_sanitize.specs.Overwritten.{lost_in}
+use Rattle.esc_sanitize.specs.Rows.{HasLeft, left_added, left_lost}
 use Rattle.esc_sanitize.specs.Written.{final_text, left_text}
 use Rattle.esc_sanitize.proofs.left.Left.close.Goals as goal
 
@@ -26,3 +27,18 @@ returns-in_err-last-in-Rows-clause-refused g c = λ r u h.
     let (n, e, fed) = subst (HasLeft r u) c.in-Rows.is h in
     on_err_any _ c.from_residual.result
     (c.in_err-last-in-Rows.ensures.refused n u fed)
+
+pub returns-in-All-clause-lost : goal.returns-in-All-clause-lost
+returns-in-All-clause-lost g c = λ r u h.
+    let A = g.row.A.Denot in
+    let x = u ++ c.args.text.now in
+    subst (λ l. left_lost l ≡ lost_in A r x) (sym c.in-All.is)
+    (subst (λ k. 0 ≡ lost_in A k x) (sym (subst (HasLeft r u) c.in-All.is h)) refl)
+
+pub returns-in_ok-last-in-Rows-clause-lost : goal.returns-in_ok-last-in-Rows-clause-lost
+returns-in_ok-last-in-Rows-clause-lost g c = λ r u h.
+    let A = g.row.A.Denot in
+    let x = u ++ c.args.text.now in
+    let (n, e, fed) = subst (HasLeft r u) c.in-Rows.is h in
+    subst (λ k. c.lost.result ≡ lost_in A k x) (sym e)
+    (c.lost.ensures n x (c.in_ok-last-in-Rows.ensures.fed n u fed))

@@ -7,7 +7,7 @@ pub returns-clause-ended : goal.returns-clause-ended
 returns-clause-ended g c = λ m e s h.
     on_ok_weaker c.finish.result
     (λ r.
-    run_end _ _ _ _ _ _ m e c.args.self.now s
+    run_end _ _ _ _ _ _ m e _ c.args.self.now s
     (runs_by g.F.StreamFilter g.P.Admit g.B.Book c.args.self.now m e s h)
     (staged_added g.F.StreamFilter c.finish.new.self) r.1) (c.finish.ensures.ended s h.0)
 
@@ -17,7 +17,7 @@ returns-clause-closed g c = λ m e s h.
 
 pub returns-clause-longer : goal.returns-clause-longer
 returns-clause-longer g c = λ m e s h.
-    run_closed _ _ _ _ _ _ m e c.args.self.now s
+    run_closed _ _ _ _ _ _ m e _ c.args.self.now s
     (runs_by g.F.StreamFilter g.P.Admit g.B.Book c.args.self.now m e s h) s
 
 pub returns-clause-refused : goal.returns-clause-refused

@@ -9,7 +9,8 @@ returns-clause-given g c = λ m e s h.
     let k = c.feed.new.self in
     on_ok_weaker c.feed.result
     (λ r.
-    run_more g.F.StreamFilter g.P.Admit g.B.Book n.encoding n.way n.text m e c.args.self.now.staged
+    run_more g.F.StreamFilter g.P.Admit g.B.Book n.encoding n.way n.text m e n.lost
+    c.args.self.now.staged
     s h
     k c.args.bytes.now (staged_added g.F.StreamFilter k) c.feed.ensures.options r.0 r.1)
     (c.feed.ensures.given s h.runs)
@@ -17,7 +18,7 @@ returns-clause-given g c = λ m e s h.
 pub returns-clause-longer : goal.returns-clause-longer
 returns-clause-longer g c = λ m e s h.
     let n = g.N.Known in
-    run_longer g.F.StreamFilter g.P.Admit g.B.Book n.encoding n.way n.text m e
+    run_longer g.F.StreamFilter g.P.Admit g.B.Book n.encoding n.way n.text m e n.lost
     c.args.self.now.staged s
     h c.args.bytes.now
 

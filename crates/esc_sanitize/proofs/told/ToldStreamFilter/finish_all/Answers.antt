@@ -8,7 +8,8 @@ returns-clause-ended g c = λ m e s h.
     let n = g.N.Known in
     on_ok_weaker c.finish.result
     (λ r.
-    run_end g.F.StreamFilter g.P.Admit g.B.Book n.encoding n.way n.text m e c.args.self.now.staged s
+    run_end g.F.StreamFilter g.P.Admit g.B.Book n.encoding n.way n.text m e n.lost
+    c.args.self.now.staged s
     h
     (staged_added g.F.StreamFilter c.finish.new.self) r.1) (c.finish.ensures.ended s h.runs)
 
@@ -17,14 +18,15 @@ returns-clause-closed g c = λ m e s h.
     let n = g.N.Known in
     on_ok_weaker c.finish.result
     (λ r.
-    run_heard g.F.StreamFilter g.P.Admit g.B.Book n.encoding n.way n.text m e c.args.self.now.staged
+    run_heard g.F.StreamFilter g.P.Admit g.B.Book n.encoding n.way n.text m e n.lost
+    c.args.self.now.staged
     s
     h c.finish.new.self c.finish.ensures.options r.0) (c.finish.ensures.ended s h.runs)
 
 pub returns-clause-longer : goal.returns-clause-longer
 returns-clause-longer g c = λ m e s h.
     let n = g.N.Known in
-    run_closed g.F.StreamFilter g.P.Admit g.B.Book n.encoding n.way n.text m e
+    run_closed g.F.StreamFilter g.P.Admit g.B.Book n.encoding n.way n.text m e n.lost
     c.args.self.now.staged s
     h s
 

@@ -14,6 +14,7 @@ returns-clause-ended g c = λ z s h.
       record {
         terminal = h.terminal;
         lines = m.0;
+        tally = h.tally;
       },
       m.1,
     )

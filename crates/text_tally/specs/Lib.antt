@@ -1,0 +1,4 @@
+pub mod Amounts
+pub mod PrintedText
+pub mod RowText
+pub mod Tallies
