@@ -95,8 +95,8 @@ finishes_none ends r x s = record {
 }
 
 -- one segment that is finished
-finishes_one : (ends : Bool) (r : Rule) (x y : Account) (g : Shape) (t : List ℕ) (es : List Entry)
-    → HasShape g t → is_finished g t ≡ true
+pub finishes_one : (ends : Bool) (r : Rule) (x y : Account) (g : Shape) (t : List ℕ)
+    (es : List Entry) → HasShape g t → is_finished g t ≡ true
     → (ends && is_return_feed (bytes_of g ++ t)) ≡ false → y ≡ step r x g true
     → es ≡ noted_entries (entry_of r x g true ∷ []) → Finishes ends r x (bytes_of g ++ t) t y es
 finishes_one ends r x y g t es shape finished none e f =

@@ -12,6 +12,7 @@ pub mod LinesRun
 pub mod Texts
 pub mod Standing
 pub mod Finishing
+pub mod Leaving
 pub mod LastWritten
 pub mod Running
 pub mod AddUp

@@ -1,5 +1,5 @@
 -- Control sequences without noise after `ESC [`, and what becomes of them.
-use Rattle.std.proofs.Common.{ℕ, zero, suc, ◌≡◌, ◌+◌, ◌-◌, ◌<◌, ◌≤◌, ◌==◌, Bool, true, false, not, ◌&&◌, cond, if◌then◌else◌, List, [], ◌∷◌, ◌++◌, length, take, drop, get_or, Option, None, Some, refl, sym, ap, ◌∙◌, subst, append-nil, arith}
+use Rattle.std.proofs.Common.{ℕ, zero, suc, ◌≡◌, ◌+◌, ◌<◌, ◌≤◌, ◌==◌, Bool, true, false, not, cond, List, [], ◌∷◌, length, take, drop, get_or, Option, Some, refl, sym, ap, ◌∙◌, subst, arith}
 use Rattle.std.proofs.lemmas.Bool.{and_parts}
 use Rattle.std.proofs.lemmas.Bool.Decides.{nat_tests}
 use Rattle.std.proofs.Math.Seq.{take-suc}
@@ -22,6 +22,7 @@ use Rattle.esc_actions.specs.Writable.{is_truncated}
 use Rattle.esc_filter.specs.Rules.{is_rendition}
 use Rattle.esc_filter.specs.declared.guard.Guard.{Guard}
 use Rattle.esc_account.specs.AtOnce.{IsOther, IsSequence}
+use Rattle.esc_account.specs.Leaving.{IsLeftOut}
 use Rattle.esc_account.specs.Rules.{left_as, rule_of, verdict_on}
 use Rattle.esc_account.proofs.Ended.{first_shape}
 use Rattle.esc_account.proofs.ShortSequences.{no_executes, one_event, shape_is}
@@ -154,6 +155,19 @@ module _ {A : Type 0} (u : Guard) (limit : ℕ) (admits : Value A → Bool) (b :
       (sym same ∙ e ∙ ap (λ v. 0x1b ∷ 0x5b ∷ v) q.whole) in
       sym (ap (λ h. rule_of l u limit admits b h finished) is
       ∙ left_one l q.body f finished q.each q.form other stays)
+
+-- and so do such bytes
+pub left_out : {A : Type 0} (l : Bool) (u : Guard) (limit : ℕ) (admits : Value A → Bool)
+    (s : List ℕ) → IsOther s
+    → ((c : CsiValue) → is_rendition c ≡ false → admits (csi c) ≡ false)
+    → IsLeftOut (rule_of l u limit admits) s
+left_out l u limit admits s (y, f, e, q, other) stays = record {
+  rest = y;
+  final = f;
+  whole = e;
+  sequence = q;
+  leaves = λ b. left_one u limit admits b l q.body f true q.each q.form other stays;
+}
 
 pub not_false : (b : Bool) → not b ≡ false → b ≡ true
 not_false true h = refl

@@ -1,12 +1,12 @@
 -- Segments that are seen at once are the first of the cut.
 use Rattle.std.proofs.Common.{ℕ, zero, suc, ◌≡◌, ◌+◌, ◌<◌, ◌≤◌, ◌-◌, ◌==◌, Bool, true, false, cond, inl, inr, List, [], ◌∷◌, ◌++◌, length, take, drop, get_or, refl, sym, ap, ◌∙◌, subst, append-nil, arith, length-append, length-drop}
-use Rattle.std.proofs.lemmas.Bool.{and_parts, eqb-true}
+use Rattle.std.proofs.lemmas.Bool.{and_parts}
 use Rattle.std.proofs.lemmas.Bool.Decides.{nat_tests}
 use Rattle.std.proofs.lemmas.List.{length-take-le, take-append-drop}
-use Rattle.std.specs.List.{flat_map, list_all, prefix_len}
-use Rattle.esc_frame.specs.Classes.{class_of, ends_csi, in_osc, is_breaker}
+use Rattle.std.specs.List.{list_all, prefix_len}
+use Rattle.esc_frame.specs.Classes.{class_of, ends_csi, in_osc}
 use Rattle.esc_frame.specs.Leads.{AreFinished}
-use Rattle.esc_frame.specs.Scans.{is_body_byte, is_data_byte}
+use Rattle.esc_frame.specs.Scans.{is_data_byte}
 use Rattle.esc_frame.specs.Segments.{Segment as Shape, AreOscUnits, HasShape, IsCut, OscUnit, breaks_text, bytes_of, is_finished, joined_bytes, text_bytes}
 use Rattle.esc_frame.specs.Segments.Ending.{Open, Rung}
 use Rattle.esc_frame.specs.Segments.Opener.{Long}
@@ -100,7 +100,7 @@ seen_by s k x g some few is same kind done shape over =
 
 -- ---- a control sequence
 
-final_is : (f : ℕ) → 0x40 ≤ f → f ≤ 0x7e → ends_csi (class_of f) ≡ true
+pub final_is : (f : ℕ) → 0x40 ≤ f → f ≤ 0x7e → ends_csi (class_of f) ≡ true
 unfolding class_of
 final_is f low high = grind (arith, nat_tests)
 
@@ -213,17 +213,12 @@ open_is n s few run escape = record {
 -- ---- by its bytes
 
 pub other_is : (s : List ℕ) (n f : ℕ) → 3 ≤ length s → get_or s 0 0 ≡ 0x1b → get_or s 1 0 ≡ 0x5b
-    → (n == length s - 2) ≡ true → (0 < n → IsSequence (take n (drop 2 s)) f)
-    → (f == 0x6d) ≡ false → IsOther s
-other_is s n f l a b e q other =
-    let all : n ≡ length s - 2 = eqb-true n (length s - 2) e in
-    let whole : take (n + 2) s ≡ s = all_taken (n + 2) s (omega (arith, l, all)) in (
-      take n (drop 2 s),
-      f,
-      sym whole ∙ two_first s 0x1b 0x5b l a b (n + 2) n refl,
-      q (omega (arith, l, all)),
-      other,
-    )
+    → IsSequence (take n (drop 2 s)) f → (f == 0x6d) ≡ false → IsOther (take (n + 2) s)
+other_is s n f l a b q other =
+    (take n (drop 2 s), f, two_first s 0x1b 0x5b l a b (n + 2) n refl, q, other)
+
+pub other_whole : (s : List ℕ) (n : ℕ) → n ≡ length s → IsOther (take n s) → IsOther s
+other_whole s n e h = subst IsOther (all_taken n s (omega (arith, e))) h
 
 pub text_is : (s : List ℕ) (n : ℕ) → 3 ≤ length s → get_or s 0 0 ≡ 0x1b → get_or s 1 0 ≡ 0x5d
     → is_text_end (drop n (drop 2 s)) ≡ true → IsTextOf s (take n (drop 2 s))

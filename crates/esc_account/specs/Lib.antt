@@ -6,6 +6,7 @@ pub mod Ledgers
 pub mod Finished
 pub mod Passing
 pub mod AtOnce
+pub mod Leaving
 pub mod Wholes
 pub mod Rules
 pub mod Judges

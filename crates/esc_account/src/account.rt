@@ -59,6 +59,7 @@ impl Account {
     /// The account of these bytes too, which are in the output as they came. No string is
     /// unfinished after them.
     #[tactic(auto, using(crate::proofs::Totals::total_added, crate::proofs::LineCounts::few_feeds))]
+    #[inline]
     pub fn passed(self, bytes: &[u8]) -> Account
         requires room { HasRoom self (length bytes.now) }
         ensures passed { result ≡ all_passed bytes.now self }
@@ -200,7 +201,8 @@ impl Account {
     }
 
     // How many bytes it is of.
-    fn place(self) -> u64
+    #[inline]
+    pub(crate) fn place(self) -> u64
         requires { total self.sums < 2 ^ 64 }
         ensures { result ≡ total self.sums }
     {

@@ -1,9 +1,10 @@
 //! Whoever says what becomes of a segment.
 #![tactic(auto)]
 
-ghost use Rattle.std.specs.Prelude.{◌≡◌, ◌≤◌, ℕ, Bool, IfOk, List, OnErr, Option, ◌∷◌, length, take};
+ghost use Rattle.std.specs.Prelude.{◌≡◌, ◌<◌, ◌≤◌, ℕ, Bool, IfOk, List, OnErr, Option, ◌∷◌, length, take};
 ghost use Rattle.esc_frame.specs.Segments.{AreSegments, Segment as Shape, is_finished, joined_bytes};
 ghost use Rattle.esc_segments.specs.Items.{IsItem};
+ghost use Rattle.esc_account.specs.Leaving.{IsLeftOut};
 ghost use Rattle.esc_account.specs.Passing.{IsPassing};
 ghost use Rattle.esc_account.specs.declared.verdict.Verdict.{Verdict};
 ghost use Rattle.fallible_alloc.specs.Refusals.{Refused};
@@ -38,5 +39,15 @@ pub trait Judge<A: Allocator> {
         ensures pass { IsPassing (rule self.now) before (take result.0 _bytes.now) result.1 }
     {
         (0, before)
+    }
+
+    /// Returns how many bytes at the beginning are a control sequence after `ESC [` without noise
+    /// that is left out whatever character comes before it. It is entered at once, with no call
+    /// for its verdict. The default is 0: a verdict for each.
+    fn left_ahead(&self, _bytes: &[u8]) -> usize
+        ensures few { result ≤ length _bytes.now }
+        ensures left { 0 < result → IsLeftOut (rule self.now) (take result _bytes.now) }
+    {
+        0
     }
 }

@@ -1,20 +1,24 @@
 //! The account of a line, whose end is apart from its segments.
 #![tactic(auto)]
 
-ghost use Rattle.std.specs.Prelude.{◌≡◌, ◌≤◌, ◌++◌, IfOk, List, OnErr, OnOk, drop, length};
+ghost use Rattle.std.specs.Prelude.{◌≡◌, ◌≤◌, ◌++◌, ◌∷◌, IfOk, List, OnErr, OnOk, [], drop, length};
 ghost use Rattle.esc_frame.specs.Segments.{Segment as Shape, IsCut};
 ghost use Rattle.fallible_alloc.specs.Refusals.{Refused};
 ghost use Rattle.esc_account.specs.Accounts.{Counts, HasRoom};
 ghost use Rattle.esc_account.specs.Entries.{Entry as Told, noted_entries};
 ghost use Rattle.esc_account.specs.Finished.{Finishes, IsLast, Takes};
+ghost use Rattle.esc_account.specs.Leaving.{all_left, left_entry};
 ghost use Rattle.esc_account.specs.LineEnds.{line_entries, run_line};
 ghost use Rattle.esc_account.specs.Passing.{Passes};
 
 use crate::account::Account;
 use crate::book::Book;
+use crate::entry::Entry;
+use crate::fate::Fate;
 use crate::first::{after, first_segment, is_end, segment_ahead};
 use crate::judge::Judge;
 use esc_frame::laws;
+use esc_segments::{Segment, SegmentKind};
 use std::alloc::{AllocError, Allocator};
 
 impl Account {
@@ -99,8 +103,10 @@ impl Account {
         }
     }
 
-    // The account of what comes first too, characters that pass and a segment that is finished, and
-    // how many bytes these are.
+    // Enters a sequence that is left out, characters that pass, or a finished segment, and returns
+    // the account with it and its length. The first two are most of a line, and the code for them
+    // is in the loop.
+    #[inline]
     fn next_entered<A: Allocator, J: Judge<A>, B: Book<A>>(
         self,
         judge: &J,
@@ -116,20 +122,81 @@ impl Account {
             × OnErr result (Refused A) }
         ensures last { IfOk result (λ r. r.1 ≡ 0 → IsLast ends bytes.now) }
     {
-        laws::has_cut();
+        let left = judge.left_ahead(bytes);
+        if left > 0 {
+            return match self.left_entered(book, &bytes[..left]) {
+                Ok(longer) => Ok((longer, left)),
+                Err(error) => Err(error),
+            };
+        }
         let (account, run) = self.text_passed(judge, bytes);
-        let rest = after(bytes, run);
-        match segment_ahead(rest, ends) {
-            None => Ok((account, run)),
-            Some(segment) => match account.segment_entered(judge, book, segment) {
-                Ok(longer) => Ok((longer, run + segment.bytes.len())),
+        if run > 0 {
+            return Ok((account, run));
+        }
+        self.other_entered(judge, book, bytes, ends)
+    }
+
+    // The same of a segment that is finished, whatever it is.
+    fn other_entered<A: Allocator, J: Judge<A>, B: Book<A>>(
+        self,
+        judge: &J,
+        book: &mut B,
+        bytes: &[u8],
+        ends: bool,
+    ) -> Result<(Account, usize), AllocError>
+        requires room { HasRoom self (length bytes.now) }
+        ensures finishes { IfOk result (λ r. (fs : List Told)
+            × Finishes ends (J.rule judge.now) self bytes.now (drop r.1 bytes.now) r.0 fs
+            × Takes B.Book book.old fs book.new) }
+        ensures counts { IfOk result (λ r. (r.1 ≤ length bytes.now) × Counts self r.1 r.0)
+            × OnErr result (Refused A) }
+        ensures last { IfOk result (λ r. r.1 ≡ 0 → IsLast ends bytes.now) }
+    {
+        laws::has_cut();
+        match segment_ahead(bytes, ends) {
+            None => Ok((self, 0)),
+            Some(segment) => match self.segment_entered(judge, book, segment) {
+                Ok(longer) => Ok((longer, segment.bytes.len())),
                 Err(error) => Err(error),
             },
         }
     }
 
+    // The account of the bytes too of a control sequence that is left out by itself.
+    #[inline]
+    fn left_entered<A: Allocator, B: Book<A>>(
+        self,
+        book: &mut B,
+        bytes: &[u8],
+    ) -> Result<Account, AllocError>
+        requires room { HasRoom self (length bytes.now) }
+        ensures entered { IfOk result (λ x. x ≡ all_left bytes.now self) }
+        ensures counts { IfOk result (Counts self (length bytes.now)) × OnErr result (Refused A) }
+        ensures given { (es : List Told) → B.was_given book.old es → OnOk result
+            (B.was_given book.new (es ++ left_entry self bytes.now ∷ [])) }
+    {
+        let segment = Segment {
+            kind: SegmentKind::Csi,
+            bytes,
+            finished: true,
+        };
+        book.enter(Entry {
+            segment,
+            fate: Fate::LeftOut,
+            place: self.place(),
+            line: self.lines,
+            is_end: false,
+        })?;
+        Ok(Account {
+            sums: self.sums.with(Fate::LeftOut, bytes.len() as u64),
+            string: None,
+            ..self
+        })
+    }
+
     // The account of the characters too that come first, of which the judge says at once that they
     // pass; and how many bytes these are.
+    #[inline]
     fn text_passed<A: Allocator, J: Judge<A>>(self, judge: &J, bytes: &[u8]) -> (Account, usize)
         requires room { HasRoom self (length bytes.now) }
         ensures passes { Passes (J.rule judge.now) self bytes.now (drop result.1 bytes.now)

@@ -20,7 +20,7 @@ use crate::command::{command_verdict, is_left_end};
 use crate::fate::Fate;
 use crate::judge::Judge;
 use crate::reading::{is_short, parse_into, segment_text, split_into};
-use crate::sequence::sequence_verdict;
+use crate::sequence::{left_sequence, sequence_verdict};
 use crate::terminator::is_end;
 use crate::text::text_run;
 use crate::verdict::Verdict;
@@ -93,12 +93,14 @@ impl<P: Admit<A>, A: Allocator + Copy> Judge<A> for PolicyJudge<P, A> {
     fn passing(&self, before: Option<char>, bytes: &[u8]) -> (usize, Option<char>) {
         text_run(&self.policy, before, bytes)
     }
+
+    fn left_ahead(&self, bytes: &[u8]) -> usize {
+        left_sequence(&self.policy, bytes)
+    }
 }
 
 impl<P: Admit<A>, A: Allocator + Copy> PolicyJudge<P, A> {
-    // The verdict on a segment that is no control sequence which the policy knows. It is out of the
-    // way of the code for these.
-    #[inline(never)]
+    // The verdict on a segment that is no control sequence which the policy knows.
     fn other_verdict(
         &self,
         before: Option<char>,

@@ -1,7 +1,7 @@
 //! Control sequences that a policy judges by their parameters.
 #![tactic(auto)]
 
-ghost use Rattle.std.specs.Prelude.{◌≡◌, ◌==◌, ◌∷◌, ◌++◌, Bool, IfSome, IsTrue, List, None, Option, false, map, ℕ};
+ghost use Rattle.std.specs.Prelude.{◌≡◌, ◌==◌, ◌<◌, ◌≤◌, ◌∷◌, ◌++◌, Bool, IfSome, IsTrue, List, None, Option, false, length, map, take, ℕ};
 ghost use Rattle.esc_frame.specs.Segments.{AreSegments, Segment as Shape, is_finished, joined_bytes};
 ghost use Rattle.esc_sequences.specs.Csis.{csi_of, csi_text, unspecified};
 ghost use Rattle.esc_segments.specs.Items.{IsItem};
@@ -10,6 +10,7 @@ ghost use Rattle.esc_actions.specs.Values.{csi};
 ghost use Rattle.esc_filter.specs.declared.guard.Guard.{Guard};
 ghost use Rattle.esc_write.specs.Plain.{IsPlain, indexed_text, last_text};
 ghost use Rattle.esc_account.specs.AtOnce.{IsOther};
+ghost use Rattle.esc_account.specs.Leaving.{IsLeftOut};
 ghost use Rattle.esc_account.specs.Passing.{passed_as};
 ghost use Rattle.esc_account.specs.Rules.{left_as, rule_of, verdict_on};
 
@@ -79,14 +80,43 @@ fn is_left<P: Admit<A>, A: Allocator>(policy: &P, segment: Segment<'_>) -> bool
 fn is_other(bytes: &[u8]) -> bool
     ensures { IsTrue result → IsOther bytes.now }
 {
-    if bytes.len() < 3 || bytes[0] != 0x1b || bytes[1] != b'[' {
+    let count = other_ahead(bytes);
+    if count == 0 {
         return false;
+    }
+    count == bytes.len()
+}
+
+/// Returns how many bytes at the beginning are a control sequence after `ESC [` without noise
+/// that the policy leaves out by its final byte.
+#[inline]
+pub(crate) fn left_sequence<P: Admit<A>, A: Allocator>(policy: &P, bytes: &[u8]) -> usize
+    ensures few { result ≤ length bytes.now }
+    ensures left { 0 < result → (lined : Bool) (u : Guard) (limit : ℕ)
+        → IsLeftOut (rule_of lined u limit (P.admits policy.now)) (take result bytes.now) }
+{
+    if policy.known().no_functions {
+        other_ahead(bytes)
+    } else {
+        0
+    }
+}
+
+// How many bytes come first that are `ESC [`, the body of a control sequence without noise, and
+// another final byte than `m`.
+#[inline]
+fn other_ahead(bytes: &[u8]) -> usize
+    ensures few { result ≤ length bytes.now }
+    ensures other { 0 < result → IsOther (take result bytes.now) }
+{
+    if bytes.len() < 3 || bytes[0] != 0x1b || bytes[1] != b'[' {
+        return 0;
     }
     let (end, last) = sequence_end(after(bytes, 2));
-    if is_rendition(last) {
-        return false;
+    if end == 0 || is_rendition(last) {
+        return 0;
     }
-    end == bytes.len() - 2
+    end + 2
 }
 
 fn is_rendition(last: u8) -> bool

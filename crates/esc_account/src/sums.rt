@@ -71,6 +71,7 @@ impl Sums {
     }
 
     /// So many more had this one.
+    #[inline]
     pub fn with(self, fate: Fate, count: u64) -> Sums
         requires { total self + count < 2 ^ 64 }
         ensures { result ≡ sums_with fate count self }

@@ -33,7 +33,7 @@ pub(crate) fn text_run<P: Admit<A>, A: Allocator>(
 {
     let mut at = 0;
     let mut last = before;
-    while at < bytes.len() {
+    while at < bytes.len() && bytes[at] != 0x1b {
         let (run, next) = run_ahead(policy, last, after(bytes, at));
         if run == 0 {
             return (at, last);

@@ -1,14 +1,9 @@
-use Rattle.std.proofs.Common.{take, sym, ◌∙◌, subst, arith}
-use Rattle.esc_account.specs.AtOnce.{IsSequence}
-use Rattle.esc_account.proofs.Seen.{other_is}
+use Rattle.std.proofs.Common.{arith}
+use Rattle.std.proofs.lemmas.Bool.{eqb-true}
+use Rattle.esc_account.proofs.Seen.{other_whole}
 use Rattle.esc_account.proofs.sequence.is_other.Goals as goal
 
 pub returns : goal.returns
 returns c = λ h.
-    let n = c.sequence_end-end.result.0 in
-    let f = c.sequence_end-end.result.1 in
-    other_is c.args.bytes.now n f (omega (arith, c.if-bytes-lt3.false)) c.if-bytes-ne27.false
-    c.if-bytes-ne91.false h
-    (λ some. subst (λ v. IsSequence (take n v) f) c.after.ensures
-    (c.sequence_end-end.ensures.found some))
-    (sym c.is_rendition.ensures ∙ c.if-is_rendition.false)
+    other_whole c.args.bytes.now c.other_ahead-count.result (eqb-true _ _ h)
+    (c.other_ahead-count.ensures.other (omega (arith, c.if-count-eq0.false)))
