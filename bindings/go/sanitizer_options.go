@@ -155,6 +155,10 @@ const (
 	Windows1256
 	Windows1257
 	Windows1258
+	// UTF16 takes the order of bytes from a byte order mark, and is UTF16LE without one.
+	UTF16
+	UTF16LE
+	UTF16BE
 )
 
 // Show says how sequences that do not pass are shown.

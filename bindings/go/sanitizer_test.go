@@ -123,6 +123,10 @@ func TestSanitizerOptions(t *testing.T) {
 		{"a\rb\r\n", Color, SanitizerOptions{Returns: ReturnsKeep}, "a\rb\r\n"},
 		{"a\x9b1mb", Text, SanitizerOptions{Encoding: UTF8C1}, "ab"},
 		{"\x80", Color, SanitizerOptions{Encoding: Windows1258}, "\u20ac"},
+		{"\xff\xfea\x00=\xd8\x00\xde\n", Text, SanitizerOptions{Encoding: UTF16}, "a\U0001f600\ufffd"},
+		{"\xfe\xff\x00a\x00", Text, SanitizerOptions{Encoding: UTF16}, "a\ufffd"},
+		{"a\x00=\xd8\x00\xde", Text, SanitizerOptions{Encoding: UTF16LE}, "a\U0001f600"},
+		{"\x00a\xd8=\xde\x00", Text, SanitizerOptions{Encoding: UTF16BE}, "a\U0001f600"},
 		{"a\x1b]0;t\x07", Color, SanitizerOptions{Show: ShowPlain}, "a^[]0;t^G"},
 		{"10%\r20%\n", Color, SanitizerOptions{Rows: 8}, "20%\n"},
 		{"abcdef\x1b[Gx\n", Color, SanitizerOptions{Rows: 8}, "xbcdef\n"},
@@ -158,7 +162,7 @@ func TestSanitizerReader(t *testing.T) {
 func TestSanitizersThatAreNone(t *testing.T) {
 	for _, options := range []SanitizerOptions{
 		{Allow: 0x10000}, {Deny: 0x10000}, {Links: 8}, {Framing: 4}, {Characters: 5}, {Returns: 4},
-		{Encoding: 13}, {Show: 4}, {Rows: MostRows + 1}, {Rows: -1},
+		{Encoding: 16}, {Show: 4}, {Rows: MostRows + 1}, {Rows: -1},
 		{Columns: MostColumns + 1}, {Columns: -1},
 	} {
 		if _, err := NewSanitizerWriter(io.Discard, Text, options); err != ErrOption {
@@ -203,6 +207,8 @@ func TestAsTheProgram(t *testing.T) {
 		{Color, SanitizerOptions{Characters: CharactersShow, Returns: ReturnsDrop},
 			"--unicode=show --returns=drop"},
 		{Color, SanitizerOptions{Encoding: Latin1C1}, "--encoding=latin1 --c1=obey"},
+		{Color, SanitizerOptions{Encoding: UTF16}, "--encoding=utf-16"},
+		{Color, SanitizerOptions{Encoding: UTF16BE, Show: ShowPlain}, "--encoding=utf-16be --show"},
 		{Color, SanitizerOptions{Show: ShowReversed}, "--show=color"},
 		{Color, SanitizerOptions{Show: ShowPlain, Encoding: Latin1}, "--show --encoding=latin1"},
 		{Color, SanitizerOptions{Rows: 16}, "--collapse=16"},

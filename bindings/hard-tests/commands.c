@@ -95,7 +95,7 @@ static bool is_all(uint8_t byte, const void *at, size_t length) {
     return true;
 }
 
-/* What was written is cleared again, and then nothing but junk may be there. */
+/* Clears the written output again; then nothing but junk may be there. */
 static void clear(const struct room *room, size_t fields, size_t bytes) {
     memset(room->fields, JUNK, fields * sizeof *room->fields);
     memset(room->out, JUNK, bytes);

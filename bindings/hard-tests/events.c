@@ -200,8 +200,7 @@ static struct record record_at(const struct log *log, size_t at) {
     return record;
 }
 
-/* What is expected within a limit. Of a device control string with a header that is too long no
- * data are there. */
+/* Limits the expected events. A device control string whose header is too long has no data. */
 static void limited(size_t limit) {
     bool is_left_out = false;
     struct record record;
@@ -226,7 +225,7 @@ static size_t some_room(void) {
     return one_in(4) ? ROOMS[below(sizeof ROOMS / sizeof *ROOMS)] : below(SMALL + 1);
 }
 
-/* What each text says. Any bytes are a query, and the data of a sixel image. */
+/* Checks each text. Any bytes are a query, and the data of a sixel image. */
 static void check_commands(void) {
     struct record record;
     for (size_t at = 0; at < whole.length; at += sizeof record + record.payload) {
@@ -243,7 +242,7 @@ static void check_commands(void) {
     }
 }
 
-/* What the policy text admits, by the events: characters but DEL, and three controls. */
+/* Returns the text that the policy text admits: characters but DEL, and three controls. */
 static struct bytes shown_text(void) {
     struct record record;
     size_t length = 0;

@@ -1,5 +1,5 @@
 /* SPDX-License-Identifier: MIT */
-/* What the files of this program share. hard.c says what the program does. */
+/* The files of this program share these. hard.c says what the program does. */
 #ifndef HARD_H
 #define HARD_H
 

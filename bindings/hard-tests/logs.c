@@ -24,7 +24,7 @@ static struct escape_stream_sanitizer_options some_options(void) {
     options.framing = (uint32_t)below(4);
     options.characters = (uint32_t)below(5);
     options.returns = (uint32_t)below(4);
-    options.encoding = one_in(4) ? (uint32_t)below(13) : 0;
+    options.encoding = one_in(4) ? (uint32_t)below(16) : 0;
     options.show = one_in(4) ? (uint32_t)below(4) : 0;
     options.rows = one_in(8) ? 1 + (uint32_t)below(40) : 0;
     options.columns = one_in(4) ? 0 : 1 + (uint32_t)below(24);

@@ -17,7 +17,7 @@ static unsigned digit(char c) {
     return (unsigned)(c <= '9' ? c - '0' : c - 'a' + 10);
 }
 
-/* What a text stands for: \xNN is a byte, \\ is \, any other byte is itself. */
+/* Reads a text: \xNN is a byte, \\ is \, any other byte is itself. */
 static size_t unescaped(const char *text, uint8_t *to) {
     size_t length = 0;
     while (*text && *text != '\n') {

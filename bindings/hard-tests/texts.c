@@ -151,7 +151,7 @@ static void check_normal(struct bytes stream) {
     check_chunks(&(struct text_call){false, 0, LARGE, stream}, normal);
 }
 
-/* What shows text alone has neither an escape, nor another control, nor DEL. */
+/* Text alone has neither an escape, nor another control, nor DEL. */
 static void check_shown(struct bytes text) {
     for (size_t i = 0; i < text.length; i++) {
         uint8_t byte = text.at[i];
@@ -161,7 +161,7 @@ static void check_shown(struct bytes text) {
     }
 }
 
-/* What a policy admits is normal, and admitted again. */
+/* The text that a policy admits is normal, and admitted again. */
 static void check_filter(uint32_t policy, struct bytes stream, struct bytes shown) {
     size_t limit = one_in(2) ? LARGE : below(one_in(2) ? 16 : 200);
     struct text_call call = {true, policy, limit, stream};
@@ -180,7 +180,7 @@ static void check_filter(uint32_t policy, struct bytes stream, struct bytes show
     check_chunks(&call, text);
 }
 
-/* Of a policy that is unknown nothing is written. */
+/* Nothing is written for an unknown policy. */
 static void check_unknown(struct bytes stream) {
     struct text_call call = {true, (uint32_t)next_number() | 4, LARGE, stream};
     uint8_t *out = placed(&outs, BESIDE);

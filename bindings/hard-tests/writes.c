@@ -7,7 +7,7 @@
 
 enum { EACH_ROOM_UP_TO = 24, EACH_ROOM_OF_SOME = 2000, UNTOUCHED = 99, MOST_PARAMETERS = 3 };
 
-/* What is written: fields of a command, an image or a query, or a sixel image and its items. */
+/* A value to write: fields of a command, an image or a query, or a sixel image and its items. */
 struct value {
     uint32_t (*write)(const struct value *value, uint8_t *out, size_t capacity, size_t *needed);
     uint32_t kind;

@@ -66,13 +66,19 @@ export type Group =
   | "images"
   /** Anything else, queries too. */
   | "other";
-/** How bytes are read. One of 80 to 9F alone is replaced by U+FFFD, and with `-c1` a control. */
+/**
+ * How bytes are read. One of 80 to 9F alone is replaced by U+FFFD, and with `-c1` a control. By
+ * `utf-16` a byte order mark says the order of bytes, and without one the lower comes first.
+ */
 export type Encoding =
   | "utf-8"
   | "utf-8-c1"
   | "latin-1"
   | "latin-1-c1"
-  | `windows-125${0 | 1 | 2 | 3 | 4 | 5 | 6 | 7 | 8}`;
+  | `windows-125${0 | 1 | 2 | 3 | 4 | 5 | 6 | 7 | 8}`
+  | "utf-16"
+  | "utf-16le"
+  | "utf-16be";
 
 /** How a log is sanitized, as the options of `escfilter` say it: if one is left out, as there. */
 export interface SanitizerOptions extends Limit {

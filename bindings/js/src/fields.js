@@ -53,7 +53,7 @@ class Fields {
     return this.has(name) ? this.text(name) : null;
   }
 
-  /** What `one` takes, as often as there is a field of this name. */
+  /** Returns the values that `one` takes, one for each field of this name. */
   all(name, one) {
     const found = [];
     while (this.has(name)) found.push(one(this));

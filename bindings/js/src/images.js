@@ -13,7 +13,7 @@ const MEDIA = ["Direct", "DirectBin", "File", "TemporaryFile", "SharedMem"];
 
 const verbosity = (f) => ({ verbosity: VERBOSITIES[f.get("VERBOSITY")] });
 
-/* What is sent, by its medium. */
+/* Returns the content, by its medium. */
 function content(f) {
   const bytes = f.get("CONTENT");
   const type = MEDIA[f.get("MEDIUM")];

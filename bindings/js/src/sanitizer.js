@@ -13,7 +13,8 @@ const CHARACTERS = [undefined, "keep", "join", "show", "drop"];
 const RETURNS = [undefined, "keep", "show", "drop"];
 const MARKINGS = [undefined, "plain", "escaped", "reversed"];
 const ENCODINGS = `utf-8 utf-8-c1 latin-1 latin-1-c1 windows-1250 windows-1251 windows-1252
-  windows-1253 windows-1254 windows-1255 windows-1256 windows-1257 windows-1258`.split(/\s+/);
+  windows-1253 windows-1254 windows-1255 windows-1256 windows-1257 windows-1258
+  utf-16 utf-16le utf-16be`.split(/\s+/);
 const FATES = `passed respelled shown replaced leftOut swallowed overwritten length`.split(" ");
 const MOST_ROWS = 4096;
 const MOST_COLUMNS = 16384;

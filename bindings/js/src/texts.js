@@ -13,7 +13,7 @@ export function policyOf(policy) {
   throw new TypeError(`escape-stream: no such policy: ${policy}`);
 }
 
-/* What those have in common that give text. */
+/* The base of those that give text. */
 class InChunks extends Kept {
   #name;
   #what;
@@ -136,7 +136,7 @@ export class HtmlWriter extends InChunks {
   }
 }
 
-/* What a stream gives that is given whole, with its end or without. */
+/* Returns the text of a whole stream, with its end or without. */
 function whole(taker, stream, withEnd) {
   try {
     const text = taker.feed(stream);

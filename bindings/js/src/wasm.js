@@ -73,7 +73,7 @@ export function limitOf(limit = DEFAULT_LIMIT) {
 // Gives back what an object kept that nothing names any more.
 const forgotten = new FinalizationRegistry((free) => free());
 
-/** What keeps blocks of the memory until it is disposed of, or nothing names it any more. */
+/** Keeps blocks of the memory until it is disposed of, or nothing names it any more. */
 export class Kept {
   #free;
   #what;

@@ -10,7 +10,7 @@ import { use } from "../index.js";
 const CORE = new URL("../core.js", import.meta.url).href;
 const MODULE = new URL("../escape_stream.wasm", import.meta.url);
 
-/* What a program prints that has the calls without the module, and its bytes. */
+/* Returns the output of a program that has the calls without the module, and its bytes. */
 function said(program) {
   const text = `import { readFile } from "node:fs/promises";
     const { strip, use } = await import(${JSON.stringify(CORE)});

@@ -12,7 +12,7 @@ import { chunks, streams } from "./rows.js";
 const POLICIES = ["text", "color", "screen", "all"];
 const SHORT_ROWS = { rows: 2, columns: 9, show: "escaped" };
 
-/* What a taker gives of a stream in chunks. */
+/* Returns the text of a stream in chunks. */
 function inChunks(taker, stream, size) {
   const found = chunks(stream, size).map((it) => Buffer.from(taker.feed(it)));
   found.push(Buffer.from(taker.finish()));

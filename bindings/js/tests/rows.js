@@ -22,7 +22,7 @@ class Row {
     });
   }
 
-  /** What its lines of this word stand for, joined, or undefined where there is none. */
+  /** Returns the bytes of its lines of this word, joined, or undefined if there is none. */
   bytes(word) {
     const found = this.lines.filter(([it]) => it === word);
     return found.length > 0 ? Buffer.concat(found.map(([, text]) => unescaped(text))) : undefined;

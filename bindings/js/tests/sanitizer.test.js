@@ -83,6 +83,12 @@ test("each option", () => {
   assert.equal(textOf("a\rb\r\n", "color", { returns: "keep" }), "a\rb\r\n");
   assert.equal(textOf(bytes("a\x9b1mb"), "text", { encoding: "utf-8-c1" }), "ab");
   assert.equal(textOf(bytes("\x80"), "color", { encoding: "windows-1258" }), "\u20ac");
+  for (const [encoding, units] of [
+    ["utf-16", "\xff\xfea\0=\xd8\0\xde\n"], ["utf-16", "\xfe\xff\0a\xd8=\xde\0\0"],
+    ["utf-16le", "a\0=\xd8\0\xde\n"], ["utf-16be", "\0a\xd8=\xde\0\0"],
+  ]) {
+    assert.equal(textOf(bytes(units), "text", { encoding }), "a\u{1f600}\ufffd");
+  }
   assert.equal(textOf("a\x1b]0;t\x07", "color", { show: "plain" }), "a^[]0;t^G");
   assert.equal(textOf("10%\r20%\n", "color", { rows: 8 }), "20%\n");
   assert.equal(textOf("abcdef\x1b[Gx\n", "color", { rows: 8 }), "xbcdef\n");
@@ -119,7 +125,7 @@ test("a transformer tells its account", async () => {
 test("what is no option, and what has ended", () => {
   const wrong = [
     { allow: ["none"] }, { deny: "sgr" }, { links: ["ftp"] }, { framing: "line" }, { show: true },
-    { characters: "join " }, { returns: 1 }, { encoding: "utf-16" },
+    { characters: "join " }, { returns: 1 }, { encoding: "utf-7" },
   ];
   for (const options of wrong) assert.throws(() => sanitize("a", "text", options), TypeError);
   for (const rows of [-1, 1.5, 4097, NaN]) {
@@ -129,7 +135,9 @@ test("what is no option, and what has ended", () => {
     assert.throws(() => sanitize("a", "text", { columns }), RangeError);
   }
   assert.throws(() => sanitize("a", "none"), TypeError);
-  assert.throws(() => sanitize("a", "text", { encoding: "latin-1" }), TypeError);
+  for (const encoding of ["latin-1", "utf-16le"]) {
+    assert.throws(() => sanitize("a", "text", { encoding }), TypeError);
+  }
   const it = new Sanitizer();
   it.finish();
   for (const call of [() => it.feed("a"), () => it.finish()]) {
@@ -157,6 +165,8 @@ const AS_THE_PROGRAM = [
   ["color", { links: ["https", "mailto"] }, ["--links=https,mailto"]],
   ["color", { characters: "show", returns: "drop" }, ["--unicode=show", "--returns=drop"]],
   ["color", { encoding: "latin-1-c1" }, ["--encoding=latin1", "--c1=obey"]],
+  ["color", { encoding: "utf-16" }, ["--encoding=utf-16"]],
+  ["color", { encoding: "utf-16be", show: "plain" }, ["--encoding=utf-16be", "--show"]],
   ["color", { show: "reversed" }, ["--show=color"]],
   ["color", { show: "plain", encoding: "latin-1" }, ["--show", "--encoding=latin1"]],
   ["color", { rows: 16 }, ["--collapse=16"]],

@@ -7,7 +7,7 @@ import {
 
 const bytes = (text) => new Uint8Array(Buffer.from(text));
 
-/* What a transformer makes of some chunks. */
+/* Returns the output of a transformer for some chunks. */
 async function through(transformer, chunks) {
   const source = new ReadableStream({
     start(to) {

@@ -10,7 +10,7 @@ const POLICIES = { "as-text": "text", "as-color": "color", "as-screen": "screen"
 const bytes = (text) => new Uint8Array(Buffer.from(text));
 const STREAM = "a\x1b]0;a title\x07 \x1b[1;31mred\x1b[2;5Hcaf\u00e9\x1b]8;;https://x.org\x1b\\link";
 
-/* What chunks add, together, and what the end adds. */
+/* Returns the text that chunks add, together, and the text that the end adds. */
 function fed(it, cut) {
   const found = cut.map((chunk) => Buffer.from(it.feed(chunk)));
   const end = Buffer.from(it.finish());

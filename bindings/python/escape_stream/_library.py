@@ -28,7 +28,7 @@ from pathlib import Path
 from threading import Lock
 
 Bytes = bytes | bytearray | memoryview | mmap
-"""What has the bytes of a stream."""
+"""An object that has the bytes of a stream."""
 
 DONE, NO_MEMORY, UNKNOWN_POLICY, NOT_BEGUN, NO_COMMAND, NOT_WRITABLE = range(6)
 UNKNOWN_SIZE, UNKNOWN_GROUP, UNKNOWN_LINKS, UNKNOWN_FRAMING, UNKNOWN_CHARACTERS = range(6, 11)

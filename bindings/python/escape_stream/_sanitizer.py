@@ -116,6 +116,10 @@ class Encoding(IntEnum):
     WINDOWS_1256 = 10
     WINDOWS_1257 = 11
     WINDOWS_1258 = 12
+    UTF_16 = 13
+    """By its byte order mark; UTF_16LE if it has none."""
+    UTF_16LE = 14
+    UTF_16BE = 15
 
 
 class Show(IntEnum):

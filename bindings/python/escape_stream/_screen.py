@@ -88,7 +88,7 @@ class Link(NamedTuple):
 
 
 class RequestKind(IntEnum):
-    """What a stream asks a terminal for, which a real one answers."""
+    """The requests of a stream to a terminal, which a real one answers."""
 
     PRIMARY_ATTRIBUTES = 1
     SECONDARY_ATTRIBUTES = 2
@@ -135,7 +135,7 @@ def _char(cell: RawCell) -> Char:
 
 
 class Screen:
-    """What a terminal of a size shows of a stream that comes in chunks.
+    """The screen of a terminal of a size for a stream that comes in chunks.
 
     >>> from escape_stream import Screen
     >>> with Screen(12, 2) as screen:
@@ -237,7 +237,7 @@ class Screen:
 
     @property
     def requests(self) -> list[Request]:
-        """What the last chunk asked a terminal for, in order."""
+        """The requests of the last chunk to a terminal, in order."""
         count = self._state().requests
         room = (RawRequest * count)()
         self._do(_library.screen_requests, room, count, byref(c_size_t()))

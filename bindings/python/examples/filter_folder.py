@@ -5,9 +5,9 @@ bytes, by Dask.
 
   filter_folder.py [--policy text|color|screen|all] [--workers N] FOLDER OUT
 
-Of each file of FOLDER it writes to OUT, under the same name, what `escfilter` does by the policy,
-and of a recording of asciinema, whose name ends in .cast, what `escfilter --cast` does. It prints a
-table: for each file, and for all, how many bytes had each fate. A file is a task, in a process of
+For each file of FOLDER it writes to OUT, under the same name, the output of `escfilter` by the
+policy, and for a recording of asciinema, whose name ends in .cast, of `escfilter --cast`. It prints
+a table: for each file, and for all, how many bytes had each fate. A file is a task, in a process of
 its own. If a worker dies, another does its tasks again; a file stands in OUT once it is whole.
 `--scheduler ADDRESS` sends the tasks to a cluster that runs, whose machines see both folders.
 """

@@ -113,6 +113,12 @@ def test_options() -> None:
     assert text_of(b"a\rb\r\n", returns=Returns.KEEP) == b"a\rb\r\n"
     assert text_of(b"a\x9b1mb", Policy.TEXT, encoding=Encoding.UTF_8_C1) == b"ab"
     assert text_of(b"\x80", encoding=Encoding.WINDOWS_1252) == "€".encode()
+    for encoding, name in (
+        *((Encoding.UTF_16, "utf-16"), (Encoding.UTF_16, "utf-16-le")),
+        *((Encoding.UTF_16LE, "utf-16-le"), (Encoding.UTF_16BE, "utf-16-be")),
+    ):
+        units = "é€🚀\x1b]0;t\x07\n".encode(name) + b"x"
+        assert text_of(units, Policy.TEXT, encoding=encoding) == "é€🚀\n\ufffd".encode()
     assert text_of(b"a\x1b]0;t\x07", show=Show.PLAIN) == b"a^[]0;t^G"
     assert text_of(b"10%\r20%\n", rows=8) == b"20%\n"
     assert text_of(b"abcdef\x1b[Gx\n", rows=8) == b"xbcdef\n"
@@ -139,6 +145,11 @@ def test_the_program(tmp_path: Path) -> None:
             ["--unicode=show", "--returns=drop"],
         ),
         ({"encoding": Encoding.LATIN_1_C1}, ["--encoding=latin1", "--c1=obey"]),
+        ({"encoding": Encoding.UTF_16}, ["--encoding=utf-16"]),
+        (
+            {"encoding": Encoding.UTF_16BE, "show": Show.PLAIN},
+            ["--encoding=utf-16be", "--show"],
+        ),
         ({"show": Show.REVERSED}, ["--show=color"]),
         ({"show": Show.PLAIN, "encoding": Encoding.LATIN_1}, ["--show", "--encoding=latin1"]),
         ({"rows": 16}, ["--collapse=16"]),
@@ -177,7 +188,7 @@ def test_misuse() -> None:
         {"allow": 0x10000},
         {"links": 8},
     ]
-    for wrong in [*options, {"framing": 4}, {"encoding": 13}, {"limit": -1}]:
+    for wrong in [*options, {"framing": 4}, {"encoding": 16}, {"limit": -1}]:
         with pytest.raises(ValueError):
             Sanitizer(**wrong)
     for no_policy in (-1, 4):

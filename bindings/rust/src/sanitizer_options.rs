@@ -240,4 +240,10 @@ pub enum Encoding {
     Windows1257,
     /// windows-1258, Vietnamese.
     Windows1258,
+    /// UTF-16 in the order of bytes that its byte order mark says; `Utf16Le` if it has none.
+    Utf16,
+    /// UTF-16, the lower byte first.
+    Utf16Le,
+    /// UTF-16, the higher byte first.
+    Utf16Be,
 }

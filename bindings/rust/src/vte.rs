@@ -36,7 +36,7 @@
 //! ```
 use crate::{Entry, Event};
 use held::{Held, Single, before_tail, tail};
-use plain::Plain;
+use plain::{Plain, Start, call_sequence};
 
 pub mod by_byte;
 mod held;
@@ -271,26 +271,33 @@ impl<const OSC_RAW_BUF_SIZE: usize> Parser<OSC_RAW_BUF_SIZE> {
             return Some(count);
         }
         let place = self.held.place();
-        let count = take_plain(performer, bytes, place);
-        if count > 0 {
-            return Some(count);
-        }
-        if place == Place::Ground {
-            if let Some((plain, count)) = Plain::first(bytes, self.stream.limit()) {
-                plain.call(&mut self.params, performer);
-                if plain.ends_in_escape() {
-                    self.held.begin(&[ESCAPE]);
-                }
+        if place != Place::Ground || bytes[0] != ESCAPE {
+            let count = take_plain(performer, bytes, place);
+            if count > 0 {
                 return Some(count);
             }
         }
+        if place != Place::Ground {
+            return self.take_events(performer, before_tail(bytes), |_| false);
+        }
+        match Start::of(bytes, self.stream.limit()) {
+            Start::Whole(plain, count) => {
+                self.call(performer, plain);
+                return Some(count);
+            }
+            Start::Begun => {
+                self.held.begin(bytes);
+                return Some(bytes.len());
+            }
+            Start::Other => {}
+        }
         match *bytes {
-            [ESCAPE, ..] if place == Place::Ground && tail(bytes) == bytes.len() => {
+            [ESCAPE, ..] if tail(bytes) == bytes.len() => {
                 self.held.begin(bytes);
                 return Some(bytes.len());
             }
             // The beginning of a character.
-            [first @ 0xc2..=0xf4, ..] if place == Place::Ground && bytes.len() < 4 => {
+            [first @ 0xc2..=0xf4, ..] if bytes.len() < 4 => {
                 let single = self.held.take(first);
                 self.act(performer, first, single);
                 return Some(1);
@@ -312,11 +319,25 @@ impl<const OSC_RAW_BUF_SIZE: usize> Parser<OSC_RAW_BUF_SIZE> {
         }
     }
 
+    // Makes the call for a sequence or a command that is all in one chunk.
+    #[inline]
+    fn call<P: Perform>(&mut self, performer: &mut P, plain: Plain<'_>) {
+        plain.call(&mut self.params, performer);
+        if plain.ends_in_escape() {
+            self.held.begin(&[ESCAPE]);
+        }
+    }
+
     // Takes the bytes that are held.
     #[inline(never)]
     fn take_held<P: Perform>(&mut self, performer: &mut P) {
         let params = &mut self.params;
-        if let Some((plain, _)) = Plain::first(self.held.bytes(), self.stream.limit()) {
+        if let [ESCAPE, b'[', ref inner @ ..] = *self.held.bytes() {
+            if call_sequence(params, performer, inner) {
+                self.held.clear(Place::Ground);
+                return;
+            }
+        } else if let Start::Whole(plain, _) = Start::of(self.held.bytes(), self.stream.limit()) {
             plain.call(params, performer);
             if plain.ends_in_escape() {
                 self.held.begin(&[ESCAPE]);

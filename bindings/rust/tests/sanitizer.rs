@@ -156,6 +156,16 @@ fn each_option_says_what_it_says() {
         text_of(text().encoding(Encoding::Windows1258), b"\x80"),
         "€".as_bytes()
     );
+    let in_utf_16: [(Encoding, &[u8]); 4] = [
+        (Encoding::Utf16, b"\xff\xfea\0=\xd8\0\xde\n"),
+        (Encoding::Utf16, b"\xfe\xff\0a\xd8=\xde\0\0"),
+        (Encoding::Utf16Le, b"a\0=\xd8\0\xde\n"),
+        (Encoding::Utf16Be, b"\0a\xd8=\xde\0\0"),
+    ];
+    for (encoding, units) in in_utf_16 {
+        let wanted = "a\u{1f600}\u{fffd}".as_bytes();
+        assert_eq!(text_of(text().encoding(encoding), units), wanted);
+    }
     assert_eq!(
         text_of(text().show(Marking::Plain), b"a\x1b]0;t\x07"),
         b"a^[]0;t^G"

@@ -4,6 +4,7 @@ mod Bits
 pub mod Keeping
 pub mod Outputs
 pub mod Rows
+pub mod Sanitizing
 pub mod Strings
 mod WrittenBack
 mod ImagesWritten

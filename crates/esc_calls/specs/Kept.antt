@@ -7,11 +7,12 @@ use Rattle.esc_filter.specs.declared.policy.Policy.{Policy}
 use Rattle.esc_html.specs.Fed.{added_by as added_by_page, closing_of}
 use Rattle.esc_normal.specs.Normalising.{added_by as added_by_form}
 use Rattle.esc_normal.specs.declared.normaliser.Normaliser.{Normaliser}
-use Rattle.esc_sanitize.specs.Sanitized.{added_by as added_by_sanitizer}
 use Rattle.esc_calls.specs.declared.kept.Kept.{Kept}
 use Rattle.esc_calls.specs.declared.kept.Kept.TheVariants as kept
-use Rattle.esc_calls.specs.Sanitizers.{Sanitizing, chain}
+use Rattle.esc_calls.specs.SanitizerStates.{state_text as sanitizer_text}
+use Rattle.esc_calls.specs.Sanitizers.{Sanitizing}
 use Rattle.esc_calls.specs.declared.page_state.PageState.{PageState}
+use Rattle.esc_calls.specs.declared.sanitizer_state.SanitizerState.{SanitizerState}
 use Rattle.esc_calls.specs.declared.screen_state.ScreenState.{ScreenState}
 
 -- the text of a page: the text that the last chunk added, or the tags that close it
@@ -23,7 +24,7 @@ abbrev pub kept_text : Kept → List ℕ
 kept_text (kept.Filter f) = added_by_filter f
 kept_text (kept.Page p) = state_text p
 kept_text (kept.Normal n) = added_by_form n
-kept_text (kept.Sanitizer z) = added_by_sanitizer chain z
+kept_text (kept.Sanitizer z) = sanitizer_text z
 kept_text (kept.Screen x) = []
 
 -- the filter, the page, the normaliser, the sanitizer and the screen that is kept, if it is one
@@ -51,12 +52,20 @@ normaliser_in (Some (kept.Normal n)) = Some n
 normaliser_in (Some (kept.Sanitizer z)) = None
 normaliser_in (Some (kept.Screen x)) = None
 
+abbrev pub sanitizer_state_in : Option Kept → Option SanitizerState
+sanitizer_state_in None = None
+sanitizer_state_in (Some (kept.Filter f)) = None
+sanitizer_state_in (Some (kept.Page p)) = None
+sanitizer_state_in (Some (kept.Normal n)) = None
+sanitizer_state_in (Some (kept.Sanitizer z)) = Some z
+sanitizer_state_in (Some (kept.Screen x)) = None
+
 abbrev pub sanitizer_in : Option Kept → Option Sanitizing
 sanitizer_in None = None
 sanitizer_in (Some (kept.Filter f)) = None
 sanitizer_in (Some (kept.Page p)) = None
 sanitizer_in (Some (kept.Normal n)) = None
-sanitizer_in (Some (kept.Sanitizer z)) = Some z
+sanitizer_in (Some (kept.Sanitizer z)) = Some z.sanitizer
 sanitizer_in (Some (kept.Screen x)) = None
 
 abbrev pub screen_in : Option Kept → Option ScreenState

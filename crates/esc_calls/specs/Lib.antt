@@ -18,6 +18,7 @@ pub mod Reads
 pub mod SanitizerGroups
 pub mod SanitizerOptions
 pub mod SanitizerChunks
+pub mod SanitizerStates
 pub mod Sanitizers
 pub mod Screens
 pub mod SixelValues

@@ -1,5 +1,7 @@
 -- The options of a sanitizer, as numbers.
 use Rattle.std.specs.Prelude.{ℕ, ◌≡◌, ◌≢◌, ◌≤◌, ◌<◌, ◌==◌, ◌⊎◌, ◌&&◌, if◌then◌else◌, Bool, true, false, not, Option, Some, None, is_some}
+use Rattle.esc_decode.specs.declared.byte_order.ByteOrder.{ByteOrder}
+use Rattle.esc_decode.specs.declared.byte_order.ByteOrder.TheVariants as byte_order
 use Rattle.esc_decode.specs.declared.code_page.CodePage.TheVariants as page
 use Rattle.esc_decode.specs.declared.encoding.Encoding.{Encoding}
 use Rattle.esc_decode.specs.declared.encoding.Encoding.TheVariants as encoding
@@ -18,6 +20,7 @@ use Rattle.esc_sanitize.specs.Defaults.{is_for_reading}
 use Rattle.esc_sanitize.specs.declared.options.FilterOptions.{FilterOptions}
 use Rattle.esc_calls.specs.Policies.{policy_numbered}
 use Rattle.esc_calls.specs.SanitizerGroups.{AreSaid, links_numbered}
+use Rattle.esc_calls.specs.Sanitizers.{Settings}
 use Rattle.esc_calls.specs.declared.TheConstants.{TOO_MANY_COLUMNS, TOO_MANY_ROWS, UNKNOWN_CHARACTERS, UNKNOWN_ENCODING, UNKNOWN_FRAMING, UNKNOWN_GROUP, UNKNOWN_LINKS, UNKNOWN_POLICY, UNKNOWN_RETURNS, UNKNOWN_SHOW, UNKNOWN_SIZE}
 use Rattle.esc_calls.specs.declared.fault.Fault.{Fault}
 use Rattle.esc_calls.specs.declared.fault.Fault.TheVariants as fault
@@ -64,9 +67,12 @@ marking_numbered n =
     else None
 
 -- if actions that do not pass are shown, no byte is replaced
+abbrev pub utf8_by : Bool → Encoding
+utf8_by shows = if shows then encoding.EightBit else encoding.Utf8
+
 abbrev pub encoding_numbered : ℕ → Bool → Option Encoding
 encoding_numbered n shows =
-    if n == 0 then Some (if shows then encoding.EightBit else encoding.Utf8)
+    if n == 0 then Some (utf8_by shows)
     else if n == 1 then Some encoding.EightBit
     else if n == 2
     then Some (encoding.CodePage (if shows then page.Latin1WithControls else page.Latin1))
@@ -80,6 +86,17 @@ encoding_numbered n shows =
     else if n == 10 then Some (encoding.CodePage page.Windows1256)
     else if n == 11 then Some (encoding.CodePage page.Windows1257)
     else if n == 12 then Some (encoding.CodePage page.Windows1258)
+    else if n == 13 then Some (utf8_by shows)
+    else if n == 14 then Some (utf8_by shows)
+    else if n == 15 then Some (utf8_by shows)
+    else None
+
+-- the order of bytes in a stream of UTF-16, which goes to the filter as UTF-8
+abbrev pub order_numbered : ℕ → Option ByteOrder
+order_numbered n =
+    if n == 13 then Some byte_order.Marked
+    else if n == 14 then Some byte_order.Little
+    else if n == 15 then Some byte_order.Big
     else None
 
 abbrev pub columns_numbered : ℕ → ℕ
@@ -135,9 +152,9 @@ pub record Says (r : SanitizerOptions) (p : Policy) (o : FilterOptions Groups) :
   pub audits : o.audits ≡ not (r.account == 0)
 
 -- and under its own
-abbrev pub IsSaid : SanitizerOptions → FilterOptions Groups → Type 0
+abbrev pub IsSaid : SanitizerOptions → Settings → Type 0
 IsSaid r o = (p : Policy) × (policy_numbered r.policy ≡ Some p) × (r.size ≡ OPTIONS_SIZE)
-    × (r.reserved ≡ 0) × Says r p o
+    × (r.reserved ≡ 0) × Says r p o.filter × (o.order ≡ order_numbered r.encoding)
 
 -- ---- the numbers that mean nothing
 

@@ -19,11 +19,11 @@ use Rattle.caret_notation.specs.declared.revealing.Revealing.{Revealing}
 use Rattle.esc_sanitize.specs.Chains.{added_either, ended_either, gives_either}
 use Rattle.esc_sanitize.specs.Sanitized.{Chain, Framed}
 use Rattle.esc_sanitize.specs.declared.either.Either.{Either}
-use Rattle.esc_sanitize.specs.declared.options.FilterOptions.{FilterOptions}
 use Rattle.esc_sanitize.specs.declared.sanitizer.Sanitizer.{Sanitizer}
+use Rattle.esc_calls.specs.declared.settings.Settings as said
 
 abbrev pub Settings : Type 0
-Settings = FilterOptions Groups
+Settings = said.Settings
 
 abbrev pub Sanitizing : Type 0
 Sanitizing = Sanitizer Groups Global

@@ -3,10 +3,10 @@ ghost use Rattle.std.specs.Prelude.{◌≡◌};
 ghost use Rattle.esc_calls.specs.Kept.{kept_text};
 
 use crate::page_state::PageState;
+use crate::sanitizer_state::SanitizerState;
 use crate::screen_state::ScreenState;
-use esc_filter::{Filter, Groups, Policy};
+use esc_filter::{Filter, Policy};
 use esc_normal::Normaliser;
-use esc_sanitize::Sanitizer;
 
 /// The state that a stream in chunks keeps, in a block of its own.
 #[derive(Drop)]
@@ -18,13 +18,13 @@ pub enum Kept {
     /// A normaliser.
     Normal(Normaliser),
     /// A sanitizer.
-    Sanitizer(Sanitizer<Groups<'static>>),
+    Sanitizer(SanitizerState),
     /// A screen.
     Screen(ScreenState),
 }
 
 impl Kept {
-    /// The text that the last call added.
+    /// Returns the text that the last call added.
     pub(crate) fn text(&self) -> &str
         ensures { result.now ≡ kept_text self.now }
     {
@@ -32,7 +32,7 @@ impl Kept {
             Kept::Filter(filter) => filter.text(),
             Kept::Page(page) => page.text(),
             Kept::Normal(normaliser) => normaliser.text(),
-            Kept::Sanitizer(sanitizer) => sanitizer.text(),
+            Kept::Sanitizer(state) => state.text(),
             Kept::Screen(_) => "",
         }
     }

@@ -1,12 +1,12 @@
 //! The meaning of the numbers of the options of a sanitizer.
 ghost use Rattle.std.specs.Prelude.{◌≡◌};
-ghost use Rattle.esc_calls.specs.SanitizerOptions.{characters_numbered, encoding_numbered, framing_numbered, marking_numbered, returns_numbered, usual_guard};
+ghost use Rattle.esc_calls.specs.SanitizerOptions.{characters_numbered, encoding_numbered, framing_numbered, marking_numbered, returns_numbered, usual_guard, utf8_by};
 
 use caret_notation::Marking;
 use esc_decode::{CodePage, Encoding};
 use esc_filter::{Guard, Policy, Returns, Unicode};
 
-/// Whether each line is a stream of its own; by the number 0 as is usual.
+/// Returns whether each line is a stream of its own; by the number 0 as is usual.
 pub(crate) fn framing_of(number: u32, usual: bool) -> Option<bool>
     ensures { result ≡ framing_numbered number usual }
 {
@@ -18,8 +18,8 @@ pub(crate) fn framing_of(number: u32, usual: bool) -> Option<bool>
     }
 }
 
-/// The way in which characters that hide or reorder text are written; by the number 0 the usual
-/// one.
+/// Returns the way in which characters that hide or reorder text are written; by the number 0 the
+/// usual one.
 pub(crate) fn characters_of(number: u32, usual: Unicode) -> Option<Unicode>
     ensures { result ≡ characters_numbered number usual }
 {
@@ -33,7 +33,7 @@ pub(crate) fn characters_of(number: u32, usual: Unicode) -> Option<Unicode>
     }
 }
 
-/// The way in which carriage returns are written; by the number 0 the usual one.
+/// Returns the way in which carriage returns are written; by the number 0 the usual one.
 pub(crate) fn returns_of(number: u32, usual: Returns) -> Option<Returns>
     ensures { result ≡ returns_numbered number usual }
 {
@@ -46,7 +46,7 @@ pub(crate) fn returns_of(number: u32, usual: Returns) -> Option<Returns>
     }
 }
 
-/// The way in which actions that do not pass are shown, if they are.
+/// Returns the way in which actions that do not pass are shown, if they are.
 pub(crate) fn marking_of(number: u32) -> Option<Option<Marking>>
     ensures { result ≡ marking_numbered number }
 {
@@ -59,16 +59,12 @@ pub(crate) fn marking_of(number: u32) -> Option<Option<Marking>>
     }
 }
 
-/// The encoding of the bytes. If actions that do not pass are shown, none is replaced.
+/// Returns the encoding of the bytes. If actions that do not pass are shown, none is replaced.
 pub(crate) fn encoding_of(number: u32, shows: bool) -> Option<Encoding>
     ensures { result ≡ encoding_numbered number shows }
 {
     match number {
-        0 => Some(if shows {
-            Encoding::EightBit
-        } else {
-            Encoding::Utf8
-        }),
+        0 | 13 | 14 | 15 => Some(utf8_by(shows)),
         1 => Some(Encoding::EightBit),
         2 => Some(Encoding::CodePage(if shows {
             CodePage::Latin1WithControls
@@ -89,8 +85,19 @@ pub(crate) fn encoding_of(number: u32, shows: bool) -> Option<Encoding>
     }
 }
 
-/// The usual way for characters and carriage returns that hide or reorder text, if so many rows may
-/// be written again.
+// Returns the encoding of UTF-8.
+fn utf8_by(shows: bool) -> Encoding
+    ensures { result ≡ utf8_by shows }
+{
+    if shows {
+        Encoding::EightBit
+    } else {
+        Encoding::Utf8
+    }
+}
+
+/// Returns the usual way for characters and carriage returns that hide or reorder text, if so many
+/// rows may be written again.
 pub(crate) fn usual_guard(policy: Policy, rows: u32) -> Guard
     ensures { result ≡ usual_guard policy rows }
 {

@@ -5,7 +5,8 @@ ghost use Rattle.esc_calls.specs.InChunks.{IsEnded, KeepsNone, Stays, Takes, tex
 ghost use Rattle.esc_calls.specs.Kept.{sanitizer_in};
 ghost use Rattle.esc_calls.specs.Output.{Copies};
 ghost use Rattle.esc_calls.specs.SanitizerOptions.{IsSaid, SaysFault};
-ghost use Rattle.esc_calls.specs.SanitizerChunks.{FinishesSanitizer, SanitizerHasConsumed, error_status, going};
+ghost use Rattle.esc_calls.specs.SanitizerChunks.{FinishesSanitizer, SanitizerHasConsumed, error_status};
+ghost use Rattle.esc_calls.specs.SanitizerStates.{going};
 ghost use Rattle.esc_calls.specs.Sanitizers.{Settings};
 ghost use Rattle.esc_sanitize.specs.Sanitized.{account_in};
 ghost use Rattle.fallible_alloc.specs.Refusals.{Refused};
@@ -16,13 +17,14 @@ use crate::common::{begin, copy_text};
 use crate::in_chunks::InChunks;
 use crate::kept::Kept;
 use crate::sanitizer_options::SanitizerOptions;
+use crate::sanitizer_state::SanitizerState;
 use crate::{DONE, NO_MEMORY, NOT_BEGUN};
 use esc_filter::Groups;
 use esc_frame::ParseError;
-use esc_sanitize::{Sanitizer, writes_chunks};
+use esc_sanitize::writes_chunks;
 use std::alloc::Global;
 
-/// The work of `escape_stream_sanitizer_begin` of `escape_c`.
+/// Does the work of `escape_stream_sanitizer_begin` of `escape_c`.
 pub fn sanitizer_begin(alloc: Global, sanitizer: &mut InChunks, options: &SanitizerOptions) -> u32
     ensures begun { result ≡ DONE → (o : Settings) × IsSaid options.now o
         × SanitizerHasConsumed o [] sanitizer.new }
@@ -31,10 +33,10 @@ pub fn sanitizer_begin(alloc: Global, sanitizer: &mut InChunks, options: &Saniti
     ensures memory { result ≡ NO_MEMORY → Refused Global }
 {
     match options.read() {
-        Ok(said) => begin(
+        Ok(settings) => begin(
             alloc,
             sanitizer,
-            Kept::Sanitizer(Sanitizer::new(alloc, said)),
+            Kept::Sanitizer(SanitizerState::new(alloc, settings)),
         ),
         Err(fault) => {
             drop(sanitizer.take(alloc));
@@ -43,7 +45,7 @@ pub fn sanitizer_begin(alloc: Global, sanitizer: &mut InChunks, options: &Saniti
     }
 }
 
-/// The work of `escape_stream_sanitizer_feed` of `escape_c`.
+/// Does the work of `escape_stream_sanitizer_feed` of `escape_c`.
 pub fn sanitizer_feed(alloc: Global, sanitizer: &mut InChunks, bytes: &[u8]) -> u32
     ensures taken { (o : Settings) (s : List ℕ) → SanitizerHasConsumed o s sanitizer.old
         → result ≡ DONE → Takes (SanitizerHasConsumed o) (going o) s bytes.now sanitizer.new }
@@ -55,10 +57,10 @@ pub fn sanitizer_feed(alloc: Global, sanitizer: &mut InChunks, bytes: &[u8]) -> 
     let Some(mut kept) = sanitizer.take(alloc) else {
         return NOT_BEGUN;
     };
-    let Kept::Sanitizer(inner) = &mut *kept else {
+    let Kept::Sanitizer(state) = &mut *kept else {
         return NOT_BEGUN;
     };
-    match inner.feed(bytes) {
+    match state.feed(bytes) {
         Ok(()) => {
             *sanitizer = InChunks::of(kept);
             DONE
@@ -67,7 +69,7 @@ pub fn sanitizer_feed(alloc: Global, sanitizer: &mut InChunks, bytes: &[u8]) -> 
     }
 }
 
-/// The work of `escape_stream_sanitizer_finish` of `escape_c`.
+/// Does the work of `escape_stream_sanitizer_finish` of `escape_c`.
 pub fn sanitizer_finish(alloc: Global, sanitizer: &mut InChunks) -> u32
     ensures finished { (o : Settings) (s : List ℕ) → SanitizerHasConsumed o s sanitizer.old
         → result ≡ DONE → FinishesSanitizer o s sanitizer.new }
@@ -80,10 +82,10 @@ pub fn sanitizer_finish(alloc: Global, sanitizer: &mut InChunks) -> u32
     let Some(mut kept) = sanitizer.take(alloc) else {
         return NOT_BEGUN;
     };
-    let Kept::Sanitizer(inner) = &mut *kept else {
+    let Kept::Sanitizer(state) = &mut *kept else {
         return NOT_BEGUN;
     };
-    match inner.finish() {
+    match state.finish() {
         Ok(()) => {
             *sanitizer = InChunks::of(kept);
             DONE
@@ -92,7 +94,7 @@ pub fn sanitizer_finish(alloc: Global, sanitizer: &mut InChunks) -> u32
     }
 }
 
-/// The work of `escape_stream_sanitizer_text` of `escape_c`.
+/// Does the work of `escape_stream_sanitizer_text` of `escape_c`.
 pub fn sanitizer_text(alloc: Global, sanitizer: &mut InChunks, from: usize, out: &mut [u8]) -> usize
     ensures copied { Copies (text_of sanitizer.old) from out.old out.new result }
     ensures kept { Stays sanitizer.old sanitizer.new }
@@ -100,7 +102,7 @@ pub fn sanitizer_text(alloc: Global, sanitizer: &mut InChunks, from: usize, out:
     copy_text(alloc, sanitizer, from, out)
 }
 
-/// The work of `escape_stream_sanitizer_account` of `escape_c`.
+/// Does the work of `escape_stream_sanitizer_account` of `escape_c`.
 pub fn sanitizer_account(alloc: Global, sanitizer: &mut InChunks, account: &mut AccountRow) -> u32
     ensures told { result ≡ DONE → IfSome (sanitizer_in sanitizer.old.held.kept)
         (λ z. account.new ≡ row_of (account_in z)) × Stays sanitizer.old sanitizer.new }
@@ -108,19 +110,19 @@ pub fn sanitizer_account(alloc: Global, sanitizer: &mut InChunks, account: &mut 
         × (account.new ≡ account.old) }
     ensures ended { result ≡ NOT_BEGUN ↔ KeepsNone sanitizer_in sanitizer.old }
 {
-    change_kept!(alloc, sanitizer, Sanitizer(inner), always {
-        *account = AccountRow::from_account(inner.account());
+    change_kept!(alloc, sanitizer, Sanitizer(state), always {
+        *account = AccountRow::from_account(state.sanitizer.account());
     })
 }
 
-/// The work of `escape_stream_sanitizer_end` of `escape_c`.
+/// Does the work of `escape_stream_sanitizer_end` of `escape_c`.
 pub fn sanitizer_end(alloc: Global, sanitizer: &mut InChunks)
     ensures { IsEnded sanitizer.new }
 {
     drop(sanitizer.take(alloc));
 }
 
-// The status that says an error.
+// Returns the status that says an error.
 fn status_of(error: ParseError) -> u32
     ensures { result ≡ error_status error }
 {

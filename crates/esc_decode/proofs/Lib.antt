@@ -6,3 +6,4 @@ pub mod Raw
 pub mod Reading
 pub mod StreamFilter
 pub mod Units
+pub mod Utf16Streams

@@ -2,3 +2,4 @@ pub mod Masks
 pub mod Pages
 pub mod Decodings
 pub mod Units
+pub mod Utf16Streams

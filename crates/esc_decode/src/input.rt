@@ -1,6 +1,7 @@
 //! The bytes that are read of a stream.
 
-use crate::utf16_reader::{ByteOrder, Utf16Reader};
+use crate::byte_order::ByteOrder;
+use crate::utf16_reader::Utf16Reader;
 use std::alloc::Global;
 use std::io;
 use std::io::Read;

@@ -14,6 +14,7 @@
 #![tactic(auto)]
 
 mod ascii;
+mod byte_order;
 mod code_page;
 mod decode;
 mod decoding;
@@ -26,8 +27,10 @@ mod names;
 mod runs;
 mod tables;
 mod utf16;
+mod utf16_decoder;
 mod utf16_reader;
 
+pub use byte_order::ByteOrder;
 pub use code_page::CodePage;
 pub use decoding::Decoding;
 pub use encoding::Encoding;
@@ -40,4 +43,5 @@ pub use laws::{
 pub use mask::Mask;
 pub use names::{ENCODINGS, encoding_of, order_of, page_of};
 pub use utf16::Utf16;
-pub use utf16_reader::{ByteOrder, Utf16Reader};
+pub use utf16_decoder::Utf16Decoder;
+pub use utf16_reader::Utf16Reader;

@@ -1,8 +1,8 @@
 //! The names of encodings.
 
+use crate::byte_order::ByteOrder;
 use crate::code_page::CodePage;
 use crate::encoding::Encoding;
-use crate::utf16_reader::ByteOrder;
 
 /// The names that [`page_of`] and [`order_of`] know, and `utf-8`: those of the Encoding Standard
 /// (<https://encoding.spec.whatwg.org/>), and `latin1`.

@@ -12,7 +12,7 @@ use std::alloc::{AllocError, Allocator};
 #[derive(Clone, Copy)]
 pub struct Utf16 {
     is_little: bool,
-    odd: Option<u8>,
+    pub(crate) odd: Option<u8>,
     high: Option<u16>,
 }
 

@@ -5,7 +5,8 @@
  *     sanitizer
  *
  * A string that nobody ends loses one line; streams in chunks of each size give the same text and
- * the same account, whose sums add up to the length; by the policy TEXT the text is plain; each
+ * the same account, whose sums add up to the length, in UTF-8 for a stream in UTF-16, whose
+ * characters are those of the Unicode Standard; by the policy TEXT the text is plain; each
  * request for memory is refused in turn; each option that is none has its status; sanitizers that
  * are not begun, ended twice or begun again. Prints a line for each difference; the status is 1
  * where there is one. Link it with -Wl,--wrap=malloc,--wrap=realloc,--wrap=free, by which it
@@ -224,6 +225,73 @@ static void check_texts(void) {
         "a\n\x1b[?1049h\x1b[Hx\n\x1b[?1049lb\n", "a\nb\n");
 }
 
+/* Streams in UTF-16, and their text by the policy COLOR. */
+#define MARK "\xef\xbb\xbf"
+#define REPLACED "\xef\xbf\xbd"
+#define TEXT "a\xe2\x82\xac\xf0\x9f\x98\x80\n"
+#define LITTLE "a\0\xac\x20\x3d\xd8\0\xde\n"
+#define BIG "\0a\x20\xac\xd8\x3d\xde\0\0\n"
+#define UNITS(number, bytes, text)                                                                 \
+    { ESCAPE_STREAM_ENCODING_##number, (const uint8_t *)(bytes), sizeof(bytes) - 1, text }
+
+static const struct {
+    uint32_t encoding;
+    const uint8_t *bytes;
+    size_t length;
+    const char *text;
+} IN_UTF_16[] = {
+    UNITS(UTF_16, LITTLE "\0", TEXT),
+    UNITS(UTF_16, "\xff\xfe" LITTLE "\0", TEXT),
+    UNITS(UTF_16, "\xfe\xff" BIG, TEXT),
+    UNITS(UTF_16LE, LITTLE "\0", TEXT),
+    UNITS(UTF_16BE, BIG, TEXT),
+    UNITS(UTF_16LE, "\xff\xfe" LITTLE "\0", MARK TEXT),
+    UNITS(UTF_16BE, "\xfe\xff" BIG, MARK TEXT),
+    UNITS(UTF_16, "a\0\0\xd8", "a" REPLACED),
+    UNITS(UTF_16, "\0\xdcz\0", REPLACED "z"),
+    UNITS(UTF_16, "\0\xd8z\0", REPLACED "z"),
+    UNITS(UTF_16, "\0\xd8=\xd8\0\xde", REPLACED "\xf0\x9f\x98\x80"),
+    UNITS(UTF_16, "a\0x", "a" REPLACED),
+    UNITS(UTF_16, "a\0\x3d\xd8", "a" REPLACED),
+    UNITS(UTF_16, "a\0\x3d\xd8\0", "a" REPLACED),
+    UNITS(UTF_16, "", ""),
+    UNITS(UTF_16, "\xff", REPLACED),
+    UNITS(UTF_16, "\xff\xfe", ""),
+    UNITS(UTF_16, "\xff\xfe\0", REPLACED),
+    UNITS(UTF_16, "\x1b\0[\0001\0m\0b\0\x3d\xd8", "\x1b[1mb" REPLACED "\x1b[0m"),
+    UNITS(UTF_16BE, "\0\x1b\0]\0000\0;\0t\0\x07\0x", "x"),
+};
+
+static void check_units(void) {
+    static struct written it;
+    for (size_t i = 0; i < sizeof IN_UTF_16 / sizeof *IN_UTF_16; i++) {
+        struct escape_stream_sanitizer_options options = INIT;
+        size_t length = IN_UTF_16[i].length;
+        const char *text = IN_UTF_16[i].text;
+        uint32_t status = ESCAPE_STREAM_NO_MEMORY;
+        options.encoding = IN_UTF_16[i].encoding;
+        for (size_t size = 1; size <= 1 + length; size++) {
+            wants(
+                feed_all(&options, IN_UTF_16[i].bytes, length, size, 16, &it) ==
+                        ESCAPE_STREAM_DONE &&
+                    it.count == strlen(text) && memcmp(it.text, text, it.count) == 0,
+                "another text in UTF-16, in chunks of", text, size);
+            wants(
+                sum(&it.account) == it.account.length, "the sums in UTF-16 are not the length",
+                text, (size_t)it.account.length);
+        }
+        for (unsigned long at = 1; status != ESCAPE_STREAM_DONE && at < 1000; at++) {
+            requests = 0;
+            refused = at;
+            status = feed_all(&options, IN_UTF_16[i].bytes, length, 3, 16, &it);
+            refused = 0;
+            wants(
+                it.count <= strlen(text) && memcmp(it.text, text, it.count) == 0,
+                "no beginning of the text in UTF-16", text, at);
+        }
+    }
+}
+
 static void refuses(struct escape_stream_sanitizer_options options, uint32_t wanted) {
     struct escape_stream_sanitizer it = {0};
     wants(
@@ -243,7 +311,7 @@ static void check_faults(void) {
     refuses(WITH(.framing = 4), ESCAPE_STREAM_UNKNOWN_FRAMING);
     refuses(WITH(.characters = 5), ESCAPE_STREAM_UNKNOWN_CHARACTERS);
     refuses(WITH(.returns = 4), ESCAPE_STREAM_UNKNOWN_RETURNS);
-    refuses(WITH(.encoding = 13), ESCAPE_STREAM_UNKNOWN_ENCODING);
+    refuses(WITH(.encoding = 16), ESCAPE_STREAM_UNKNOWN_ENCODING);
     refuses(WITH(.show = 4), ESCAPE_STREAM_UNKNOWN_SHOW);
     refuses(WITH(.rows = 4097), ESCAPE_STREAM_TOO_MANY_ROWS);
     refuses(WITH(.columns = 16385), ESCAPE_STREAM_TOO_MANY_COLUMNS);
@@ -321,6 +389,7 @@ int main(void) {
     check_kinds();
     check_faults();
     check_texts();
+    check_units();
     check_options();
     printf("%lu differences\n", differences);
     return differences != 0;

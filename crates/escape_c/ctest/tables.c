@@ -5,8 +5,8 @@
  *
  *     tables TABLE..
  *
- * Of each row what is written has to be what the row says, at every capacity, and every other byte
- * has to stay as it was. Each request for memory is refused in turn. Prints a line for each row
+ * The output for each row has to be as the row says, at every capacity, and every other byte has to
+ * stay as it was. Each request for memory is refused in turn. Prints a line for each row
  * that differs; the status is 1 where one does. Link it with -Wl,--wrap=malloc,--wrap=realloc, by
  * which it counts and refuses requests.
  */

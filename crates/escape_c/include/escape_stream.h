@@ -361,8 +361,12 @@ struct escape_stream_sanitizer {
 
 /*
  * How bytes are read. A byte 80 to 9F that is no part of a character is replaced by U+FFFD, and by
- * an encoding .._C1 it is a control, as it is wherever `show` is not 0. A stream in UTF-16 has to be
- * made UTF-8 first.
+ * an encoding .._C1 it is a control, as it is wherever `show` is not 0.
+ *
+ * By UTF_16 a byte order mark says the order of bytes, and is left out; in a stream without one the
+ * lower byte of a unit comes first. UTF_16LE and UTF_16BE name the order: a mark is a character. A
+ * unit that is no part of a pair is U+FFFD, and so is a unit or a pair that the end of the stream
+ * cuts short; a chunk may end within either. The UTF-8 of a chunk is kept, up to 3 bytes for 2.
  */
 #define ESCAPE_STREAM_ENCODING_UTF_8 0
 #define ESCAPE_STREAM_ENCODING_UTF_8_C1 1
@@ -377,6 +381,9 @@ struct escape_stream_sanitizer {
 #define ESCAPE_STREAM_ENCODING_WINDOWS_1256 10
 #define ESCAPE_STREAM_ENCODING_WINDOWS_1257 11
 #define ESCAPE_STREAM_ENCODING_WINDOWS_1258 12
+#define ESCAPE_STREAM_ENCODING_UTF_16 13
+#define ESCAPE_STREAM_ENCODING_UTF_16LE 14
+#define ESCAPE_STREAM_ENCODING_UTF_16BE 15
 
 /*
  * How sequences that do not pass are shown in their place, as ^[]0;title^G; 0: they are left out.

@@ -5,7 +5,8 @@ ghost use Rattle.esc_calls.specs.InChunks.{IsEnded, KeepsNone, Stays, Takes, tex
 ghost use Rattle.esc_calls.specs.Kept.{sanitizer_in};
 ghost use Rattle.esc_calls.specs.Output.{Copies};
 ghost use Rattle.esc_calls.specs.SanitizerOptions.{IsSaid, SaysFault};
-ghost use Rattle.esc_calls.specs.SanitizerChunks.{FinishesSanitizer, SanitizerHasConsumed, going};
+ghost use Rattle.esc_calls.specs.SanitizerChunks.{FinishesSanitizer, SanitizerHasConsumed};
+ghost use Rattle.esc_calls.specs.SanitizerStates.{going};
 ghost use Rattle.esc_calls.specs.Sanitizers.{Settings};
 ghost use Rattle.esc_sanitize.specs.Sanitized.{account_in};
 ghost use Rattle.fallible_alloc.specs.Refusals.{Refused};

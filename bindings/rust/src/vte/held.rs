@@ -1,7 +1,6 @@
 // SPDX-License-Identifier: MIT
 //! Bytes of a stream that comes byte by byte.
-use super::ESCAPE;
-use core::str;
+use super::{ESCAPE, first_character};
 
 // Most sequences, titles and addresses are shorter.
 const ROOM: usize = 256;
@@ -120,7 +119,10 @@ impl Held {
         };
         let room = self.bytes.get_mut(self.count..).unwrap_or_default();
         let kept = run.min(room.len());
-        room[..kept].copy_from_slice(&bytes[..kept]);
+        // (a call to copy no byte costs as much as the rest of this)
+        if kept > 0 {
+            room[..kept].copy_from_slice(&bytes[..kept]);
+        }
         self.count += kept;
         match bytes.get(kept) {
             _ if self.count == ROOM => (kept, Single::Due),
@@ -179,13 +181,13 @@ impl Held {
     }
 
     // The character that the bytes are, if they are one past the controls of C1. Then none is held.
-    #[inline]
+    // It stands apart, so that what takes sequences stays small.
+    #[inline(never)]
     fn character(&mut self) -> Option<char> {
         if self.kind != Kind::Character(0) {
             return None;
         }
-        let mut characters = str::from_utf8(self.bytes()).ok()?.chars();
-        let c = characters.next().filter(|it| *it >= '\u{a0}')?;
+        let c = first_character(self.bytes())?;
         self.clear(Place::Ground);
         Some(c)
     }

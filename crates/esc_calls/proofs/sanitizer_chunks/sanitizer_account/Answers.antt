@@ -11,7 +11,7 @@ returns-clause-told c = λ done.
     ∙ ap Some (sym c.deref_mut.ensures.value ∙ c.in-Sanitizer.is) in
     let row = c.from_account.ensures ∙ ap row_of c.account.ensures in (
       if_known (λ z. c.from_account.result ≡ row_of (account_in z))
-          (sanitizer_in c.args.sanitizer.now.held.kept) c.in-Sanitizer.inner
+          (sanitizer_in c.args.sanitizer.now.held.kept) c.in-Sanitizer.state.sanitizer
           (ap sanitizer_in is) row,
       record { kept = c.of.ensures.begun ∙ sym is; begun = search },
     )
