@@ -89,8 +89,8 @@ impl<F: StreamFilter<A>, A: Allocator + Copy> Recording<F, A> {
         let kind = line_of(self.alloc, line, &mut self.scratch)?;
         match kind {
             Line::Output(time, data) => {
-                self.feeding.feed_chunk(data.as_bytes())?;
-                self.text = event(self.alloc, time, "o", self.feeding.output_text())?;
+                self.feeding.feed(data.as_bytes())?;
+                self.text = event(self.alloc, time, "o", self.feeding.output())?;
                 self.time.clear();
                 self.time.push_str(time)?;
                 Ok(())
@@ -117,10 +117,10 @@ impl<F: StreamFilter<A>, A: Allocator + Copy> Recording<F, A> {
         ensures memory { result ≡ Err CastError.NoEvent → ⊥ }
     {
         self.text.clear();
-        self.feeding.finish_all()?;
+        self.feeding.finish()?;
         let alloc = self.alloc;
         let is_relative = self.is_relative;
-        let added = self.feeding.output_text();
+        let added = self.feeding.output();
         if !added.is_empty() {
             let time = end_time(is_relative, self.time.as_str());
             self.text = event(alloc, time, "o", added)?;

@@ -8,7 +8,7 @@
 //! ```text
 //! let mut reveal = Reveal::new(alloc, 65_536, Policy::Color, true);
 //! reveal.feed(b"ok\x1b[6n\n")?;
-//! reveal.added()       // b"ok^[[6n\n"
+//! reveal.output()      // b"ok^[[6n\n"
 //! ```
 #![tactic(auto)]
 

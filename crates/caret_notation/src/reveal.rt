@@ -105,12 +105,12 @@ impl<P: Admit<A>, A: Allocator + Copy> Reveal<P, A> {
         }
     }
 
-    /// Takes `bytes`. The text that they add to the text of the stream so far is then [`added`].
+    /// Takes `bytes`. The text that they add to the text of the stream so far is then [`output`].
     ///
     /// The error says that a request for memory was refused: nothing was added, and from then on
     /// every call returns this error.
     ///
-    /// [`added`]: Reveal::added
+    /// [`output`]: Reveal::output
     pub fn feed(&mut self, bytes: &[u8]) -> Result<(), AllocError>
         ensures given { (s : List ℕ) → HasConsumed s self.old → OnOk result
             (HasConsumed (s ++ bytes.now) self.new × AddsTo P.Admit s bytes.now self.old self.new) }
@@ -133,12 +133,12 @@ impl<P: Admit<A>, A: Allocator + Copy> Reveal<P, A> {
     }
 
     /// Ends the stream, and begins the next. The visible text of a piece that has not ended is then
-    /// [`added`].
+    /// [`output`].
     ///
     /// The error says that a request for memory was refused: nothing was added, and from then on
     /// every call returns this error.
     ///
-    /// [`added`]: Reveal::added
+    /// [`output`]: Reveal::output
     pub fn finish(&mut self) -> Result<(), AllocError>
         ensures ended { (s : List ℕ) → HasConsumed s self.old → OnOk result
             (HasConsumed [] self.new × EndsAs P.Admit s self.old self.new) }
@@ -161,7 +161,7 @@ impl<P: Admit<A>, A: Allocator + Copy> Reveal<P, A> {
     }
 
     /// Returns the bytes that the last call added.
-    pub fn added(&self) -> &[u8]
+    pub fn output(&self) -> &[u8]
         ensures { result.now ≡ added_by self.now }
     {
         &self.text

@@ -46,23 +46,23 @@ impl<F: StreamFilter<A>, P: Admit<A>, A: Allocator + Copy> StreamFilter<A> for R
     ghost has_ended = { λ f _ _. (c : List ℕ → List ℕ) × (s : List ℕ)
         × F.has_ended f.filter c s };
 
-    fn feed_chunk(&mut self, bytes: &[u8]) -> Result<(), AllocError> {
+    fn feed(&mut self, bytes: &[u8]) -> Result<(), AllocError> {
         self.text.clear();
         self.reveal.feed(bytes)?;
-        self.filter.feed_chunk(self.reveal.added())?;
-        fallible_alloc::push_str(&mut self.text, self.filter.output_text())
+        self.filter.feed(self.reveal.output())?;
+        fallible_alloc::push_str(&mut self.text, self.filter.output())
     }
 
-    fn finish_all(&mut self) -> Result<(), AllocError> {
+    fn finish(&mut self) -> Result<(), AllocError> {
         self.text.clear();
         self.reveal.finish()?;
-        self.filter.feed_chunk(self.reveal.added())?;
-        fallible_alloc::push_str(&mut self.text, self.filter.output_text())?;
-        self.filter.finish_all()?;
-        fallible_alloc::push_str(&mut self.text, self.filter.output_text())
+        self.filter.feed(self.reveal.output())?;
+        fallible_alloc::push_str(&mut self.text, self.filter.output())?;
+        self.filter.finish()?;
+        fallible_alloc::push_str(&mut self.text, self.filter.output())
     }
 
-    fn output_text(&self) -> &str {
+    fn output(&self) -> &str {
         self.text.as_str()
     }
 }

@@ -28,8 +28,8 @@ fn add_left<A: Allocator + Copy>(
 ) -> Result<(), AllocError> {
     for input_chunk in stream.chunks(3) {
         collapse.feed(input_chunk)?;
-        text.push_str(collapse.added())?;
+        text.push_str(collapse.output())?;
     }
     collapse.finish()?;
-    text.push_str(collapse.added())
+    text.push_str(collapse.output())
 }

@@ -11,7 +11,7 @@ pub fn page<A: Allocator + Copy>(
 ) -> Result<String, AllocError> {
     let mut writer = HtmlWriter::new(heap, 4096, per_line);
     match writer.feed(stream) {
-        Ok(()) => format!(in alloc; "{}{}", writer.html(), writer.closing()),
+        Ok(()) => format!(in alloc; "{}{}", writer.output(), writer.finish()),
         Err(_) => Err(AllocError),
     }
 }

@@ -21,17 +21,17 @@ impl<F: StreamFilter<A>, K: Tap<A>, A: Allocator> StreamFilter<A> for Audited<F,
 
     ghost has_ended = { λ f c s. F.has_ended f.inner c s × K.heard_all f.audience s (c s) };
 
-    fn feed_chunk(&mut self, bytes: &[u8]) -> Result<(), AllocError> {
-        self.inner.feed_chunk(bytes)?;
-        self.audience.hear(bytes, self.inner.output_text())
+    fn feed(&mut self, bytes: &[u8]) -> Result<(), AllocError> {
+        self.inner.feed(bytes)?;
+        self.audience.hear(bytes, self.inner.output())
     }
 
-    fn finish_all(&mut self) -> Result<(), AllocError> {
-        self.inner.finish_all()?;
-        self.audience.hear_end(self.inner.output_text())
+    fn finish(&mut self) -> Result<(), AllocError> {
+        self.inner.finish()?;
+        self.audience.hear_end(self.inner.output())
     }
 
-    fn output_text(&self) -> &str {
-        self.inner.output_text()
+    fn output(&self) -> &str {
+        self.inner.output()
     }
 }

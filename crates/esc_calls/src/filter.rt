@@ -59,7 +59,7 @@ fn filter_by(
 {
     match filtered(alloc, policy, limit, bytes) {
         Ok(filter) => {
-            *needed = put(filter.text().as_bytes(), out);
+            *needed = put(filter.output().as_bytes(), out);
             DONE
         }
         Err(_) => NO_MEMORY,

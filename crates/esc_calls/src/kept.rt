@@ -29,9 +29,9 @@ impl Kept {
         ensures { result.now ≡ kept_text self.now }
     {
         match self {
-            Kept::Filter(filter) => filter.text(),
+            Kept::Filter(filter) => filter.output(),
             Kept::Page(page) => page.text(),
-            Kept::Normal(normaliser) => normaliser.text(),
+            Kept::Normal(normaliser) => normaliser.output(),
             Kept::Sanitizer(state) => state.text(),
             Kept::Screen(_) => "",
         }

@@ -41,9 +41,9 @@ impl PageState {
         ensures { result.now ≡ state_text self.now }
     {
         if self.has_ended {
-            self.writer.closing()
+            self.writer.finish()
         } else {
-            self.writer.html()
+            self.writer.output()
         }
     }
 }

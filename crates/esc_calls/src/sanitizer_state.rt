@@ -106,7 +106,7 @@ impl SanitizerState {
             ≡ string_bytes self.old.text ++ added_by chain self.old.sanitizer) }
         ensures refused { OnErr result (Refused Global) }
     {
-        fallible_alloc::push_str(&mut self.text, self.sanitizer.text())
+        fallible_alloc::push_str(&mut self.text, self.sanitizer.output())
     }
 
     /// The text that the last call added.
@@ -116,7 +116,7 @@ impl SanitizerState {
         if self.is_closing {
             &self.text
         } else {
-            self.sanitizer.text()
+            self.sanitizer.output()
         }
     }
 }

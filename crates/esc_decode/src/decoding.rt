@@ -45,7 +45,7 @@ impl<F: StreamFilter<A>, A: Allocator + Copy> Decoding<F, A> {
         }
     }
 
-    /// Takes bytes more, as `feed_chunk` does.
+    /// Takes bytes more, as `feed` does.
     pub fn feed(&mut self, bytes: &[u8]) -> Result<(), AllocError>
         ensures given { (m c : List ℕ → List ℕ) (s : List ℕ)
             → Decodes F.StreamFilter self.old.encoding self.old.begun self.old.filter m c s
@@ -66,9 +66,9 @@ impl<F: StreamFilter<A>, A: Allocator + Copy> Decoding<F, A> {
         self.begun = begun;
         self.stays = stays;
         if stays {
-            self.filter.feed_chunk(bytes)
+            self.filter.feed(bytes)
         } else {
-            self.filter.feed_chunk(&self.chunk)
+            self.filter.feed(&self.chunk)
         }
     }
 
@@ -92,15 +92,15 @@ impl<F: StreamFilter<A>, A: Allocator + Copy> StreamFilter<A> for Decoding<F, A>
     ghost has_ended = { λ d _ _. (c : List ℕ → List ℕ) × (s : List ℕ)
         × F.has_ended d.filter c s };
 
-    fn feed_chunk(&mut self, bytes: &[u8]) -> Result<(), AllocError> {
+    fn feed(&mut self, bytes: &[u8]) -> Result<(), AllocError> {
         self.feed(bytes)
     }
 
-    fn finish_all(&mut self) -> Result<(), AllocError> {
-        self.filter.finish_all()
+    fn finish(&mut self) -> Result<(), AllocError> {
+        self.filter.finish()
     }
 
-    fn output_text(&self) -> &str {
-        self.filter.output_text()
+    fn output(&self) -> &str {
+        self.filter.output()
     }
 }

@@ -8,8 +8,8 @@
 //! ```text
 //! let inner = Filter::new(alloc, 65_536, Policy::Color);
 //! let mut filter = Decoding::new(alloc, Encoding::Utf8, inner);
-//! filter.feed_chunk(b"\x9ele\n")?;
-//! filter.output_text()       // "\u{fffd}le\n"
+//! filter.feed(b"\x9ele\n")?;
+//! filter.output()       // "\u{fffd}le\n"
 //! ```
 #![tactic(auto)]
 

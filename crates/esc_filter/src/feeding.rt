@@ -24,19 +24,19 @@ impl<P: Admit<A>, A: Allocator + Copy> StreamFilter<A> for Filter<P, A> {
 
     ghost has_ended = { λ _ _ _. Unit {0} };
 
-    fn feed_chunk(&mut self, bytes: &[u8]) -> Result<(), AllocError> {
+    fn feed(&mut self, bytes: &[u8]) -> Result<(), AllocError> {
         match self.feed(bytes) {
             Ok(()) => Ok(()),
             Err(_) => Err(AllocError),
         }
     }
 
-    fn finish_all(&mut self) -> Result<(), AllocError> {
+    fn finish(&mut self) -> Result<(), AllocError> {
         self.finish()
     }
 
-    fn output_text(&self) -> &str {
-        self.text()
+    fn output(&self) -> &str {
+        self.output()
     }
 }
 
@@ -50,22 +50,22 @@ impl<P: Admit<A>, A: Allocator + Copy> StreamFilter<A> for LineFilter<P, A> {
 
     ghost has_ended = { λ _ _ _. Unit {0} };
 
-    fn feed_chunk(&mut self, bytes: &[u8]) -> Result<(), AllocError> {
+    fn feed(&mut self, bytes: &[u8]) -> Result<(), AllocError> {
         match self.feed(bytes) {
             Ok(()) => Ok(()),
             Err(_) => Err(AllocError),
         }
     }
 
-    fn finish_all(&mut self) -> Result<(), AllocError> {
+    fn finish(&mut self) -> Result<(), AllocError> {
         match self.finish() {
             Ok(()) => Ok(()),
             Err(_) => Err(AllocError),
         }
     }
 
-    fn output_text(&self) -> &str {
-        self.text()
+    fn output(&self) -> &str {
+        self.output()
     }
 }
 
@@ -79,21 +79,21 @@ impl<P: Admit<A>, A: Allocator + Copy> StreamFilter<A> for ResumingFilter<P, A> 
 
     ghost has_ended = { λ _ _ _. Unit {0} };
 
-    fn feed_chunk(&mut self, bytes: &[u8]) -> Result<(), AllocError> {
+    fn feed(&mut self, bytes: &[u8]) -> Result<(), AllocError> {
         match self.feed(bytes) {
             Ok(()) => Ok(()),
             Err(_) => Err(AllocError),
         }
     }
 
-    fn finish_all(&mut self) -> Result<(), AllocError> {
+    fn finish(&mut self) -> Result<(), AllocError> {
         match self.finish() {
             Ok(()) => Ok(()),
             Err(_) => Err(AllocError),
         }
     }
 
-    fn output_text(&self) -> &str {
-        self.text()
+    fn output(&self) -> &str {
+        self.output()
     }
 }

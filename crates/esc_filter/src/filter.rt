@@ -94,7 +94,7 @@ impl<P: Admit<A>, A: Allocator + Copy> Filter<P, A> {
     }
 
     /// Takes `bytes`. The text that they add to the text of the stream so far is then the
-    /// [`text`](Filter::text).
+    /// [`output`](Filter::output).
     ///
     /// `ParseError::Memory` says that a request for memory was refused: the text is empty, and from
     /// then on every call returns `ParseError::Failed`.
@@ -126,9 +126,9 @@ impl<P: Admit<A>, A: Allocator + Copy> Filter<P, A> {
     }
 
     /// Ends the stream, and begins the next. The text that undoes the changes that it left at a
-    /// terminal is then the [`text`](Filter::text): renditions and links, the main screen, margins,
-    /// the origin, that characters are not inserted, the cursor, and the other modes of the screen.
-    /// An unfinished segment is dropped.
+    /// terminal is then the [`output`](Filter::output): renditions and links, the main screen,
+    /// margins, the origin, that characters are not inserted, the cursor, and the other modes of
+    /// the screen. An unfinished segment is dropped.
     ///
     /// The error says that a request for memory was refused: the text is empty, and the stream has
     /// not ended.
@@ -216,7 +216,7 @@ impl<P: Admit<A>, A: Allocator + Copy> Filter<P, A> {
     }
 
     /// Returns the text that the bytes fed last added.
-    pub fn text(&self) -> &str
+    pub fn output(&self) -> &str
         ensures { result.now ≡ added_by self.now }
     {
         self.written.spell.text.as_str()

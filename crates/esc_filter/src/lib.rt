@@ -10,7 +10,7 @@
 //! ```text
 //! let mut filter = Filter::new(alloc, 65_536, Policy::Color);
 //! filter.feed(b"\x1b]0;title\x07\x1b[1mbold")?;
-//! filter.text()       // "\x1b[1mbold"
+//! filter.output()     // "\x1b[1mbold"
 //! ```
 #![tactic(auto)]
 

@@ -77,7 +77,7 @@ impl<P: Admit<A>, A: Allocator + Copy> LineFilter<P, A> {
     }
 
     /// Takes `bytes`. The text that they add to the text of the stream so far is then the
-    /// [`text`](LineFilter::text).
+    /// [`output`](LineFilter::output).
     ///
     /// `ParseError::Memory` says that a request for memory was refused: the text is empty, and from
     /// then on every call returns `ParseError::Failed`.
@@ -106,7 +106,7 @@ impl<P: Admit<A>, A: Allocator + Copy> LineFilter<P, A> {
     }
 
     /// Ends the stream, and begins the next. The text that undoes the changes that its last line
-    /// left at a terminal, if that has no line feed, is then the [`text`](LineFilter::text), as
+    /// left at a terminal, if that has no line feed, is then the [`output`](LineFilter::output), as
     /// [`Filter::finish`] says, and before it the text of a carriage return that was held back.
     ///
     /// `ParseError::Memory` says that a request for memory was refused: the text is empty, and from
@@ -136,7 +136,7 @@ impl<P: Admit<A>, A: Allocator + Copy> LineFilter<P, A> {
     }
 
     /// Returns the text that the bytes fed last added.
-    pub fn text(&self) -> &str
+    pub fn output(&self) -> &str
         ensures { result.now ≡ added_by self.now }
     {
         self.text.as_str()
@@ -331,7 +331,7 @@ impl<P: Admit<A>, A: Allocator + Copy> LineFilter<P, A> {
             OnErr result (Refused A)) }
     {
         match self.filter.feed(bytes) {
-            Ok(()) => fallible_alloc::push_str(&mut self.text, self.filter.text()),
+            Ok(()) => fallible_alloc::push_str(&mut self.text, self.filter.output()),
             Err(_) => Err(AllocError),
         }
     }
@@ -394,7 +394,7 @@ impl<P: Admit<A>, A: Allocator + Copy> LineFilter<P, A> {
             return Ok(());
         }
         match self.filter.finish() {
-            Ok(()) => fallible_alloc::push_str(&mut self.text, self.filter.text()),
+            Ok(()) => fallible_alloc::push_str(&mut self.text, self.filter.output()),
             Err(e) => Err(e),
         }
     }

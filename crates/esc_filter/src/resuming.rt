@@ -56,7 +56,7 @@ impl<P: Admit<A>, A: Allocator + Copy> ResumingFilter<P, A> {
     }
 
     /// Takes `bytes`. The text that they add to the text of the stream so far is then the
-    /// [`text`](ResumingFilter::text).
+    /// [`output`](ResumingFilter::output).
     ///
     /// `ParseError::Memory` says that a request for memory was refused: the text is empty, and from
     /// then on every call returns `ParseError::Failed`.
@@ -104,10 +104,10 @@ impl<P: Admit<A>, A: Allocator + Copy> ResumingFilter<P, A> {
     }
 
     /// Returns the text that the bytes fed last added.
-    pub fn text(&self) -> &str
+    pub fn output(&self) -> &str
         ensures { result.now ≡ added_by self.now }
     {
-        self.lines.text()
+        self.lines.output()
     }
 
     // Takes these bytes, a line after another. After an error nothing is said of the filter.

@@ -59,7 +59,7 @@ impl<A: Allocator + Copy> HtmlWriter<A> {
     }
 
     /// Takes `bytes`. The text that they add to the page of the stream so far is then
-    /// [`html`](Self::html).
+    /// [`output`](Self::output).
     ///
     /// `ParseError::Memory` says that a request for memory was refused: the text is empty, and from
     /// then on every call returns `ParseError::Failed`.
@@ -83,16 +83,16 @@ impl<A: Allocator + Copy> HtmlWriter<A> {
         }
     }
 
-    /// The text that the bytes fed last added.
-    pub fn html(&self) -> &str
+    /// Returns the text that the bytes fed last added.
+    pub fn output(&self) -> &str
         ensures { result.now ≡ added_by self.now }
     {
         self.page.html.as_str()
     }
 
-    /// The tags that close those that are open. With them the text of all parts is a page, in which
-    /// each tag is closed.
-    pub fn closing(&self) -> &'static str
+    /// Returns the tags that close those that are open. With them the text of all parts is a page
+    /// that closes each tag.
+    pub fn finish(&self) -> &'static str
         ensures text { result.now ≡ closing_of self.now }
         ensures closes { After self.now (λ limit y s.
             result.now ≡ closing_text A (Some limit) y s) }

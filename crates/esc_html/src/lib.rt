@@ -7,8 +7,8 @@
 //! ```text
 //! let mut writer = HtmlWriter::new(alloc, 65_536, false);
 //! writer.feed(b"\x1b[1;31m<b>")?;
-//! writer.html()       // "<span class=\"es-bold es-fg-red\">&lt;b&gt;"
-//! writer.closing()    // "</span>"
+//! writer.output()     // "<span class=\"es-bold es-fg-red\">&lt;b&gt;"
+//! writer.finish()     // "</span>"
 //! ```
 //!
 //! The output is the text of parts: runs of characters, spans whose classes are of a fixed list and

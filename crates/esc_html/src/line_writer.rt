@@ -43,8 +43,8 @@ impl<A: Allocator> LineWriter<A> {
         }
     }
 
-    /// Takes more of the page. The text that this adds is then [`html`](Self::html). The error is
-    /// that memory was refused: then the page cannot be gone on with.
+    /// Takes more of the page. The text that this adds is then [`output`](Self::output). The error
+    /// says that memory was refused: then the page cannot be gone on with.
     pub fn feed(&mut self, page: &str) -> Result<(), AllocError>
         ensures given { AfterLines self.old (λ first s.
             OnOk result (TakesLines first s page.now self.new)) }
@@ -60,7 +60,7 @@ impl<A: Allocator> LineWriter<A> {
     }
 
     /// Takes the last of the page, and closes the last line.
-    pub fn end(&mut self, page: &str) -> Result<(), AllocError>
+    pub fn finish(&mut self, page: &str) -> Result<(), AllocError>
         ensures given { AfterLines self.old (λ first s.
             OnOk result (EndsLines first s page.now self.new)) }
         ensures refused { OnErr result (Refused A) }
@@ -72,8 +72,8 @@ impl<A: Allocator> LineWriter<A> {
         Ok(())
     }
 
-    /// The text that was added last.
-    pub fn html(&self) -> &str
+    /// Returns the text that the last call added.
+    pub fn output(&self) -> &str
         ensures { result.now ≡ added_in self.now }
     {
         self.text.as_str()

@@ -17,7 +17,7 @@ pub trait StreamFilter<A: Allocator> {
     ghost has_ended: { Self → (List ℕ → List ℕ) → List ℕ → Type 0 };
 
     /// Takes bytes more.
-    fn feed_chunk(&mut self, bytes: &[u8]) -> Result<(), AllocError>
+    fn feed(&mut self, bytes: &[u8]) -> Result<(), AllocError>
         ensures given { (m c : List ℕ → List ℕ) (s : List ℕ) → gives self.old m c s
             → OnOk result (gives self.new m c (s ++ bytes.now)
             × (m (s ++ bytes.now) ≡ m s ++ added self.new)) }
@@ -27,7 +27,7 @@ pub trait StreamFilter<A: Allocator> {
             → OnErr result (Refused A) };
 
     /// Ends the stream.
-    fn finish_all(&mut self) -> Result<(), AllocError>
+    fn finish(&mut self) -> Result<(), AllocError>
         ensures ended { (m c : List ℕ → List ℕ) (s : List ℕ) → gives self.old m c s
             → OnOk result (c s ≡ m s ++ added self.new) }
         ensures closed { (m c : List ℕ → List ℕ) (s : List ℕ) → gives self.old m c s
@@ -38,6 +38,6 @@ pub trait StreamFilter<A: Allocator> {
             → OnErr result (Refused A) };
 
     /// Returns the text that the last call added.
-    fn output_text(&self) -> &str
+    fn output(&self) -> &str
         ensures { result.now ≡ added self.now };
 }

@@ -79,8 +79,8 @@ fn pass_on<W: Write, F: StreamFilter<A>, A: Allocator + Copy>(
         (λ m c s. PassesOn F.StreamFilter W.Write m c s bytes.now filter.new writer)
         (λ m c s. PassesPrefixOn W.Write m s bytes.now writer) result writer }
 {
-    match filter.feed_chunk(bytes) {
-        Ok(()) => write_out(writer, filter.output_text()),
+    match filter.feed(bytes) {
+        Ok(()) => write_out(writer, filter.output()),
         Err(_) => Err(FilterError::Memory),
     }
 }
@@ -96,8 +96,8 @@ fn end<W: Write, F: StreamFilter<A>, A: Allocator + Copy>(
         (λ m c s. (t : List ℕ) × (c s ≡ m s ++ t) × WritesPrefix W.Write t output)
         result output }
 {
-    match filter.finish_all() {
-        Ok(()) => write_out(output, filter.output_text()),
+    match filter.finish() {
+        Ok(()) => write_out(output, filter.output()),
         Err(_) => Err(FilterError::Memory),
     }
 }

@@ -10,7 +10,7 @@
 //! ```text
 //! let mut normaliser = Normaliser::new(alloc, None);
 //! normaliser.feed(b"\x1b]0;title\x07x")?;
-//! normaliser.text()       // "\x1b]0;title\x1b\\x"
+//! normaliser.output()     // "\x1b]0;title\x1b\\x"
 //! ```
 #![tactic(auto)]
 

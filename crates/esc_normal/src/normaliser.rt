@@ -43,7 +43,7 @@ impl<A: Allocator + Copy> Normaliser<A> {
     }
 
     /// Takes `bytes`. The text that they add to the normal form of the stream so far is then the
-    /// [`text`](Normaliser::text).
+    /// [`output`](Normaliser::output).
     ///
     /// `ParseError::Memory` says that a request for memory was refused: the text is empty, and from
     /// then on every call returns `ParseError::Failed`.
@@ -75,7 +75,7 @@ impl<A: Allocator + Copy> Normaliser<A> {
     }
 
     /// Returns the text that the bytes fed last added.
-    pub fn text(&self) -> &str
+    pub fn output(&self) -> &str
         ensures { result.now ≡ added_by self.now }
     {
         self.spell.text.as_str()
@@ -90,19 +90,19 @@ impl<A: Allocator + Copy> StreamFilter<A> for Normaliser<A> {
 
     ghost has_ended = { λ _ _ _. Unit {0} };
 
-    fn feed_chunk(&mut self, bytes: &[u8]) -> Result<(), AllocError> {
+    fn feed(&mut self, bytes: &[u8]) -> Result<(), AllocError> {
         match self.feed(bytes) {
             Ok(()) => Ok(()),
             Err(_) => Err(AllocError),
         }
     }
 
-    fn finish_all(&mut self) -> Result<(), AllocError> {
+    fn finish(&mut self) -> Result<(), AllocError> {
         self.restart();
         Ok(())
     }
 
-    fn output_text(&self) -> &str {
-        self.text()
+    fn output(&self) -> &str {
+        self.output()
     }
 }

@@ -21,24 +21,24 @@ impl<F: StreamFilter<A>, G: StreamFilter<A>, A: Allocator> StreamFilter<A> for E
 
     ghost has_ended = { λ f c s. ended_either F.StreamFilter G.StreamFilter f c s };
 
-    fn feed_chunk(&mut self, bytes: &[u8]) -> Result<(), AllocError> {
+    fn feed(&mut self, bytes: &[u8]) -> Result<(), AllocError> {
         match self {
-            Either::First(filter) => filter.feed_chunk(bytes),
-            Either::Second(filter) => filter.feed_chunk(bytes),
+            Either::First(filter) => filter.feed(bytes),
+            Either::Second(filter) => filter.feed(bytes),
         }
     }
 
-    fn finish_all(&mut self) -> Result<(), AllocError> {
+    fn finish(&mut self) -> Result<(), AllocError> {
         match self {
-            Either::First(filter) => filter.finish_all(),
-            Either::Second(filter) => filter.finish_all(),
+            Either::First(filter) => filter.finish(),
+            Either::Second(filter) => filter.finish(),
         }
     }
 
-    fn output_text(&self) -> &str {
+    fn output(&self) -> &str {
         match self {
-            Either::First(filter) => filter.output_text(),
-            Either::Second(filter) => filter.output_text(),
+            Either::First(filter) => filter.output(),
+            Either::Second(filter) => filter.output(),
         }
     }
 }

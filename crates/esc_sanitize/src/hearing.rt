@@ -59,7 +59,7 @@ impl<F: StreamFilter<A>, P: Admit<A>, B: Book<A>, A: Allocator + Copy> Hearing<F
     {
         self.decoding.feed(bytes)?;
         self.auditor
-            .hear(self.decoding.chunk(bytes), self.decoding.output_text())
+            .hear(self.decoding.chunk(bytes), self.decoding.output())
     }
 
     /// Ends the stream.
@@ -72,8 +72,8 @@ impl<F: StreamFilter<A>, P: Admit<A>, B: Book<A>, A: Allocator + Copy> Hearing<F
             → OnErr result (Refused A) }
         ensures options { self.new.options ≡ self.old.options }
     {
-        self.decoding.finish_all()?;
-        self.auditor.hear_end(self.decoding.output_text())
+        self.decoding.finish()?;
+        self.auditor.hear_end(self.decoding.output())
     }
 
     /// So many bytes are overwritten.
@@ -88,10 +88,10 @@ impl<F: StreamFilter<A>, P: Admit<A>, B: Book<A>, A: Allocator + Copy> Hearing<F
     }
 
     /// The text that the last call added.
-    pub fn output_text(&self) -> &str
+    pub fn output(&self) -> &str
         ensures { result.now ≡ heard_added F.StreamFilter self.now }
     {
-        self.decoding.output_text()
+        self.decoding.output()
     }
 }
 

@@ -94,7 +94,7 @@ impl<A: Allocator + Copy> Left<A> {
     {
         match self {
             Left::All => text,
-            Left::Rows(_, collapse) => collapse.added(),
+            Left::Rows(_, collapse) => collapse.output(),
             Left::Last(last, _) => last.as_str(),
             Left::Refused => "",
         }
@@ -116,8 +116,8 @@ fn last_text<A: Allocator + Copy>(
 {
     collapse.feed(text.as_bytes())?;
     let mut last = String::new(alloc);
-    fallible_alloc::push_str(&mut last, collapse.added())?;
+    fallible_alloc::push_str(&mut last, collapse.output())?;
     collapse.finish()?;
-    fallible_alloc::push_str(&mut last, collapse.added())?;
+    fallible_alloc::push_str(&mut last, collapse.output())?;
     Ok(last)
 }

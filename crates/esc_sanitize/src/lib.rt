@@ -8,9 +8,9 @@
 //! ```text
 //! let mut sanitizer = Sanitizer::new(alloc, FilterOptions::new(Policy::Color));
 //! sanitizer.feed(b"\x1b]0;title\nok\x1b[1m bo")?;
-//! sanitizer.text()          // "\nok\x1b[1m bo": an unended string takes no line away
+//! sanitizer.output()        // "\nok\x1b[1m bo": an unended string takes no line away
 //! sanitizer.feed(b"ld\n")?;
-//! sanitizer.text()          // "ld\x1b[m\n"
+//! sanitizer.output()        // "ld\x1b[m\n"
 //! sanitizer.finish()?;
 //! sanitizer.account().sums.swallowed       // 9: the title that was not ended
 //! ```

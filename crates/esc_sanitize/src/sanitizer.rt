@@ -43,7 +43,7 @@ impl<P: Admit<A> + Drop, A: Allocator + Copy> Sanitizer<P, A> {
     }
 
     /// Takes `bytes`. What they add to the text of the stream so far is then the
-    /// [`text`](Self::text).
+    /// [`output`](Self::output).
     ///
     /// `ParseError::Memory` says that a request for memory was refused, and `ParseError::Failed`
     /// that an earlier call failed, or that the stream has ended. After an error the text is empty,
@@ -73,7 +73,7 @@ impl<P: Admit<A> + Drop, A: Allocator + Copy> Sanitizer<P, A> {
         }
     }
 
-    /// Ends the stream. What that adds to its text is then the [`text`](Self::text): what was
+    /// Ends the stream. What that adds to its text is then the [`output`](Self::output): what was
     /// unfinished, as far as it is shown, what takes back what the stream left changed at a
     /// terminal, and the rows that are left.
     ///
@@ -103,13 +103,13 @@ impl<P: Admit<A> + Drop, A: Allocator + Copy> Sanitizer<P, A> {
     }
 
     /// The text that the last call added; empty after an error.
-    pub fn text(&self) -> &str
+    pub fn output(&self) -> &str
         ensures { result.now ≡ added_by ⟦<Chain<P, A> as StreamFilter<A>>⟧ self.now }
     {
         if self.has_failed {
             ""
         } else {
-            self.staged.output_text()
+            self.staged.output()
         }
     }
 

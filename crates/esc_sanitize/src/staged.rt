@@ -43,7 +43,7 @@ impl<F: StreamFilter<A>, P: Admit<A>, B: Book<A>, A: Allocator + Copy> Staged<F,
         ensures options { options_of self.new ≡ options_of self.old }
     {
         self.hearing.feed(bytes)?;
-        self.left.take(self.hearing.output_text())
+        self.left.take(self.hearing.output())
     }
 
     /// Ends the stream.
@@ -57,16 +57,16 @@ impl<F: StreamFilter<A>, P: Admit<A>, B: Book<A>, A: Allocator + Copy> Staged<F,
         ensures options { options_of self.new ≡ options_of self.old }
     {
         self.hearing.finish()?;
-        self.left.close(self.hearing.output_text())?;
+        self.left.close(self.hearing.output())?;
         self.hearing.note(self.left.lost());
         Ok(())
     }
 
     /// The text that the last call added.
-    pub fn output_text(&self) -> &str
+    pub fn output(&self) -> &str
         ensures { result.now ≡ staged_added F.StreamFilter self.now }
     {
-        self.left.added(self.hearing.output_text())
+        self.left.added(self.hearing.output())
     }
 }
 
@@ -80,16 +80,16 @@ impl<F: StreamFilter<A>, P: Admit<A>, B: Book<A>, A: Allocator + Copy> StreamFil
 
     ghost has_ended = { λ f _ s. HasFinished P.Admit B.Book f s };
 
-    fn feed_chunk(&mut self, bytes: &[u8]) -> Result<(), AllocError> {
+    fn feed(&mut self, bytes: &[u8]) -> Result<(), AllocError> {
         self.feed(bytes)
     }
 
-    fn finish_all(&mut self) -> Result<(), AllocError> {
+    fn finish(&mut self) -> Result<(), AllocError> {
         self.finish()
     }
 
-    fn output_text(&self) -> &str {
-        Staged::output_text(self)
+    fn output(&self) -> &str {
+        Staged::output(self)
     }
 }
 

@@ -75,15 +75,15 @@ impl<F: StreamFilter<A>, P: Admit<A>, B: Book<A>, N: Known, A: Allocator + Copy>
     ghost has_ended = { λ f _ s.
         HasListened P.Admit B.Book N.encoding N.way N.text N.lost (auditor_of f.staged) s };
 
-    fn feed_chunk(&mut self, bytes: &[u8]) -> Result<(), AllocError> {
+    fn feed(&mut self, bytes: &[u8]) -> Result<(), AllocError> {
         self.staged.feed(bytes)
     }
 
-    fn finish_all(&mut self) -> Result<(), AllocError> {
+    fn finish(&mut self) -> Result<(), AllocError> {
         self.staged.finish()
     }
 
-    fn output_text(&self) -> &str {
-        self.staged.output_text()
+    fn output(&self) -> &str {
+        self.staged.output()
     }
 }

@@ -98,7 +98,7 @@ impl<'a> Frames<'a> {
         self.left = self
             .left
             .saturating_sub(u32::try_from(count).unwrap_or(u32::MAX));
-        match self.feeding.feed_chunk(&bytes[..count]) {
+        match self.feeding.feed(&bytes[..count]) {
             Ok(()) => self.write_added(writer)?,
             Err(_) => return Err(MEMORY),
         }
@@ -107,7 +107,7 @@ impl<'a> Frames<'a> {
 
     // Writes a frame of the output of the last bytes, unless it is empty.
     fn write_added<W: Write>(&self, writer: &mut Watched<W>) -> Result<(), Fault> {
-        let text = self.feeding.output_text();
+        let text = self.feeding.output();
         if text.is_empty() {
             return Ok(());
         }
@@ -139,7 +139,7 @@ impl<'a> Recording for Frames<'a> {
     }
 
     fn end<W: Write>(&mut self, writer: &mut Watched<W>) -> Result<Option<Cut>, Fault> {
-        match self.feeding.finish_all() {
+        match self.feeding.finish() {
             Ok(()) => self.write_added(writer)?,
             Err(_) => return Err(MEMORY),
         }

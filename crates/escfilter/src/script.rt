@@ -98,7 +98,7 @@ impl<'a> Script<'a> {
         writer: &mut Watched<W>,
     ) -> Result<(), Fault> {
         self.time = time;
-        match self.feeding.feed_chunk(text) {
+        match self.feeding.feed(text) {
             Ok(()) => self.write_added(writer),
             Err(_) => Err(MEMORY),
         }
@@ -106,7 +106,7 @@ impl<'a> Script<'a> {
 
     // Writes the output of the last bytes, with an entry in the new timing.
     fn write_added<W: Write>(&mut self, writer: &mut Watched<W>) -> Result<(), Fault> {
-        let added = self.feeding.output_text();
+        let added = self.feeding.output();
         let count = added.len();
         write(writer, added.as_bytes())?;
         if count > 0 {
@@ -159,7 +159,7 @@ impl<'a> Recording for Script<'a> {
             Err(TimeError::Short) => Some(Cut::Timing),
             Err(error) => return Err(Fault::Timing(error)),
         };
-        match self.feeding.finish_all() {
+        match self.feeding.finish() {
             Ok(()) => self.write_added(writer)?,
             Err(_) => return Err(MEMORY),
         }

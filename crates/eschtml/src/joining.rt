@@ -46,18 +46,18 @@ impl<F: StreamFilter<A>, A: Allocator + Copy> StreamFilter<A> for Joining<F, A> 
     ghost has_ended = { λ j _ _. (c : List ℕ → List ℕ) × (s : List ℕ)
         × F.has_ended j.filter c s };
 
-    fn feed_chunk(&mut self, bytes: &[u8]) -> Result<(), AllocError> {
+    fn feed(&mut self, bytes: &[u8]) -> Result<(), AllocError> {
         let held = join(&mut self.chunk, self.held, bytes)?;
         self.held = held;
-        self.filter.feed_chunk(&self.chunk)
+        self.filter.feed(&self.chunk)
     }
 
-    fn finish_all(&mut self) -> Result<(), AllocError> {
-        self.filter.finish_all()
+    fn finish(&mut self) -> Result<(), AllocError> {
+        self.filter.finish()
     }
 
-    fn output_text(&self) -> &str {
-        self.filter.output_text()
+    fn output(&self) -> &str {
+        self.filter.output()
     }
 }
 

@@ -37,17 +37,17 @@ impl<F: StreamFilter<A>, A: Allocator + Copy> StreamFilter<A> for Lined<F, A> {
 
     ghost has_ended = { λ _ _ _. Unit {0} };
 
-    fn feed_chunk(&mut self, bytes: &[u8]) -> Result<(), AllocError> {
-        self.filter.feed_chunk(bytes)?;
-        self.lines.feed(self.filter.output_text())
+    fn feed(&mut self, bytes: &[u8]) -> Result<(), AllocError> {
+        self.filter.feed(bytes)?;
+        self.lines.feed(self.filter.output())
     }
 
-    fn finish_all(&mut self) -> Result<(), AllocError> {
-        self.filter.finish_all()?;
-        self.lines.end(self.filter.output_text())
+    fn finish(&mut self) -> Result<(), AllocError> {
+        self.filter.finish()?;
+        self.lines.finish(self.filter.output())
     }
 
-    fn output_text(&self) -> &str {
-        self.lines.html()
+    fn output(&self) -> &str {
+        self.lines.output()
     }
 }

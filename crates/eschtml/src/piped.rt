@@ -40,39 +40,39 @@ impl<F: StreamFilter<A>, G: StreamFilter<A>, A: Allocator> StreamFilter<A> for P
 
     ghost has_ended = { λ _ _ _. Unit {0} };
 
-    fn feed_chunk(&mut self, bytes: &[u8]) -> Result<(), AllocError> {
+    fn feed(&mut self, bytes: &[u8]) -> Result<(), AllocError> {
         self.text.clear();
-        match self.first.feed_chunk(bytes) {
+        match self.first.feed(bytes) {
             Ok(()) => {}
             Err(error) => return Err(error),
         }
-        match self.second.feed_chunk(self.first.output_text().as_bytes()) {
-            Ok(()) => fallible_alloc::push_str(&mut self.text, self.second.output_text()),
+        match self.second.feed(self.first.output().as_bytes()) {
+            Ok(()) => fallible_alloc::push_str(&mut self.text, self.second.output()),
             Err(error) => Err(error),
         }
     }
 
-    fn finish_all(&mut self) -> Result<(), AllocError> {
+    fn finish(&mut self) -> Result<(), AllocError> {
         self.text.clear();
-        match self.first.finish_all() {
+        match self.first.finish() {
             Ok(()) => {}
             Err(error) => return Err(error),
         }
-        match self.second.feed_chunk(self.first.output_text().as_bytes()) {
+        match self.second.feed(self.first.output().as_bytes()) {
             Ok(()) => {}
             Err(error) => return Err(error),
         }
-        match fallible_alloc::push_str(&mut self.text, self.second.output_text()) {
+        match fallible_alloc::push_str(&mut self.text, self.second.output()) {
             Ok(()) => {}
             Err(error) => return Err(error),
         }
-        match self.second.finish_all() {
-            Ok(()) => fallible_alloc::push_str(&mut self.text, self.second.output_text()),
+        match self.second.finish() {
+            Ok(()) => fallible_alloc::push_str(&mut self.text, self.second.output()),
             Err(error) => Err(error),
         }
     }
 
-    fn output_text(&self) -> &str {
+    fn output(&self) -> &str {
         self.text.as_str()
     }
 }

@@ -55,7 +55,7 @@ impl<A: Allocator + Copy> StreamFilter<A> for Marked<A> {
 
     ghost has_ended = { λ _ _ _. Unit {0} };
 
-    fn feed_chunk(&mut self, bytes: &[u8]) -> Result<(), AllocError> {
+    fn feed(&mut self, bytes: &[u8]) -> Result<(), AllocError> {
         self.has_ended = false;
         match self.writer.feed(bytes) {
             Ok(()) => Ok(()),
@@ -63,17 +63,17 @@ impl<A: Allocator + Copy> StreamFilter<A> for Marked<A> {
         }
     }
 
-    fn finish_all(&mut self) -> Result<(), AllocError> {
-        self.closing = self.writer.closing();
+    fn finish(&mut self) -> Result<(), AllocError> {
+        self.closing = self.writer.finish();
         self.has_ended = true;
         Ok(())
     }
 
-    fn output_text(&self) -> &str {
+    fn output(&self) -> &str {
         if self.has_ended {
             self.closing
         } else {
-            self.writer.html()
+            self.writer.output()
         }
     }
 }

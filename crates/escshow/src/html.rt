@@ -26,8 +26,8 @@ pub fn html_of<A: Allocator + Copy>(alloc: A, text: &str) -> Result<String<A>, A
     };
     let mut html = String::new(alloc);
     fallible_alloc::push_str(&mut html, "<pre>\n")?;
-    fallible_alloc::push_str(&mut html, writer.html())?;
-    fallible_alloc::push_str(&mut html, writer.closing())?;
+    fallible_alloc::push_str(&mut html, writer.output())?;
+    fallible_alloc::push_str(&mut html, writer.finish())?;
     fallible_alloc::push_str(&mut html, "</pre>\n")?;
     Ok(html)
 }

@@ -73,7 +73,7 @@ impl<A: Allocator + Copy> LineCollapser<A> {
     }
 
     /// Takes `text`. The text of the rows that became final by it is then
-    /// [`added`](Self::added).
+    /// [`output`](Self::output).
     ///
     /// The error is that a request for memory was refused: nothing is added, and from then on every
     /// call returns it.
@@ -119,7 +119,7 @@ impl<A: Allocator + Copy> LineCollapser<A> {
         }
     }
 
-    /// The stream has ended: the text of the rows that are left is then [`added`](Self::added). The
+    /// Ends the stream: the text of the rows that are left is then [`output`](Self::output). The
     /// rows stay as they are.
     ///
     /// The error is as that of [`feed`](Self::feed).
@@ -173,8 +173,8 @@ impl<A: Allocator + Copy> LineCollapser<A> {
         lost_on(tally, screen, styles)
     }
 
-    /// The text that the last call added.
-    pub fn added(&self) -> &str
+    /// Returns the text that the last call added.
+    pub fn output(&self) -> &str
         ensures { result.now ≡ added_by self.now }
     {
         match &self.lines {

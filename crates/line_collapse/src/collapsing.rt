@@ -60,17 +60,17 @@ impl<F: StreamFilter<A> + Drop, A: Allocator + Copy> StreamFilter<A> for Collaps
 
     ghost has_ended = { λ f _ s. (c : List ℕ → List ℕ) × F.has_ended f.inner c s };
 
-    fn feed_chunk(&mut self, bytes: &[u8]) -> Result<(), AllocError> {
-        self.inner.feed_chunk(bytes)?;
-        self.collapse.feed(self.inner.output_text().as_bytes())
+    fn feed(&mut self, bytes: &[u8]) -> Result<(), AllocError> {
+        self.inner.feed(bytes)?;
+        self.collapse.feed(self.inner.output().as_bytes())
     }
 
-    fn finish_all(&mut self) -> Result<(), AllocError> {
-        self.inner.finish_all()?;
-        self.collapse.feed_last(self.inner.output_text().as_bytes())
+    fn finish(&mut self) -> Result<(), AllocError> {
+        self.inner.finish()?;
+        self.collapse.feed_last(self.inner.output().as_bytes())
     }
 
-    fn output_text(&self) -> &str {
-        self.collapse.added()
+    fn output(&self) -> &str {
+        self.collapse.output()
     }
 }

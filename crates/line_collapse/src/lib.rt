@@ -9,9 +9,9 @@
 //! ```text
 //! let mut collapse = LineCollapser::new(alloc, 32, 512)?;
 //! collapse.feed(b"10%\r100%\n")?;
-//! collapse.added()    // "": the row may be written again
+//! collapse.output()   // "": the row may be written again
 //! collapse.finish()?;
-//! collapse.added()    // "100%\n"
+//! collapse.output()   // "100%\n"
 //! ```
 #![tactic(auto)]
 

@@ -265,8 +265,8 @@ module _ {A : Type 0}
     in_line : AdmitsAtMost (least k) (in_lines true f)
     in_line v h = most v (and_parts (not (is_line_feed v)) (f v) h).1
 
-    feed_chunk : IsOfTokens k (0x0a ∷ [])
-    feed_chunk = subst (IsOfTokens k) (encode_ascii 0x0a (lit< tt)) (plain_piece k 0x0a refl)
+    feed : IsOfTokens k (0x0a ∷ [])
+    feed = subst (IsOfTokens k) (encode_ascii 0x0a (lit< tt)) (plain_piece k 0x0a refl)
 
     return_piece : IsOfTokens k (0x0d ∷ [])
     return_piece = subst (IsOfTokens k) (encode_ascii 0x0d (lit< tt)) (plain_piece k 0x0d refl)
@@ -275,8 +275,8 @@ module _ {A : Type 0}
     end_piece r = by (r && f (control CarriageReturn))
       where
         by : (t : Bool) → IsOfTokens k (if t then 0x0d ∷ 0x0a ∷ [] else 0x0a ∷ [])
-        by true = more_pieces k (0x0d ∷ []) (0x0a ∷ []) return_piece feed_chunk
-        by false = feed_chunk
+        by true = more_pieces k (0x0d ∷ []) (0x0a ∷ []) return_piece feed
+        by false = feed
 
     line_pieces : (l : List ℕ) → IsOfTokens k (line_text u limit f l)
     line_pieces l = by (ends_line false l)

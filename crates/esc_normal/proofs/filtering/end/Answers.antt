@@ -9,12 +9,12 @@ pub returns-in-Ok : goal.returns-in-Ok
 returns-in-Ok g c =
     let out = c.write_out.ensures in record {
       given = λ m e s h.
-          let k = c.in-Ok.ensures.ended m e s h ∙ ap (λ x. m s ++ x) (sym c.output_text.ensures) in
+          let k = c.in-Ok.ensures.ended m e s h ∙ ap (λ x. m s ++ x) (sym c.output.ensures) in
           on_ok_more _ _ c.write_out.result
-          (λ a. (c.in-Ok.ensures.closed m e s h, (c.output_text.result.now, k, a))) out.whole;
+          (λ a. (c.in-Ok.ensures.closed m e s h, (c.output.result.now, k, a))) out.whole;
       beginning = λ m e s h.
-          let k = c.in-Ok.ensures.ended m e s h ∙ ap (λ x. m s ++ x) (sym c.output_text.ensures) in
-          on_err_weaker c.write_out.result (λ a. (c.output_text.result.now, k, a)) out.beginning;
+          let k = c.in-Ok.ensures.ended m e s h ∙ ap (λ x. m s ++ x) (sym c.output.ensures) in
+          on_err_weaker c.write_out.result (λ a. (c.output.result.now, k, a)) out.beginning;
       unwritten = λ k. absurd (no_other _ fault.Memory fault.Write out.fault k refl);
       refused = λ m e s h k. absurd (no_other _ fault.Memory fault.Write out.fault k refl);
       write_fault = out.emitted;

@@ -10,13 +10,13 @@ returns-in-Ok g c =
     let out = c.write_out.ensures in record {
       given = λ m e' s h.
           let k = c.in-Ok.ensures.given m e' s h in
-          let l = k.1 ∙ ap (λ x. m s ++ x) (sym c.output_text.ensures) in
-          on_ok_more _ _ c.write_out.result (λ a. (k.0, (c.output_text.result.now, l, a)))
+          let l = k.1 ∙ ap (λ x. m s ++ x) (sym c.output.ensures) in
+          on_ok_more _ _ c.write_out.result (λ a. (k.0, (c.output.result.now, l, a)))
           out.whole;
       beginning = λ m e' s h.
           let k = c.in-Ok.ensures.given m e' s h in
-          let l = k.1 ∙ ap (λ x. m s ++ x) (sym c.output_text.ensures) in
-          on_err_weaker c.write_out.result (λ a. (c.output_text.result.now, l, a)) out.beginning;
+          let l = k.1 ∙ ap (λ x. m s ++ x) (sym c.output.ensures) in
+          on_err_weaker c.write_out.result (λ a. (c.output.result.now, l, a)) out.beginning;
       unwritten = λ k. absurd (no_other _ fault.Memory fault.Write out.fault k refl);
       refused = λ m e' s h k. absurd (no_other _ fault.Memory fault.Write out.fault k refl);
       write_fault = out.emitted;

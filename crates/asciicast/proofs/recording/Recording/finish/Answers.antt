@@ -9,11 +9,11 @@ nothing (b ∷ x) h = absurd (grind (arith, nat_tests))
 
 pub returns-else-not-is_empty-clause-given : goal.returns-else-not-is_empty-clause-given
 returns-else-not-is_empty-clause-given g c = λ m e s given.
-    let none = nothing c.output_text-added.result.now
+    let none = nothing c.output-added.result.now
     (sym c.is_empty.ensures ∙ c.if-not-is_empty.false) in
     record {
-      added = g.F.StreamFilter.added c.finish_all.new.self;
-      longer = c.in_ok-finish_all.ensures.ended m e s given;
+      added = g.F.StreamFilter.added c.finish.new.self;
+      longer = c.in_ok-finish.ensures.ended m e s given;
       silent = λ _. search rules;
-      heard = λ some. absurd (some (sym c.output_text-added.ensures ∙ none));
+      heard = λ some. absurd (some (sym c.output-added.ensures ∙ none));
     }

@@ -15,14 +15,14 @@ returns-then-stays-clause-given g c = λ m e s h.
     let d = c.args.self.now in
     let b = c.args.bytes.now in
     let p = c.decode.new.chunk.items in
-    let new = c.feed_chunk.new.self in
+    let new = c.feed.new.self in
     let is : b ≡ decoded_after d.encoding (prefix_of d.begun) b =
     sym (ap (λ t. if t then b else p) c.if-stays.true) ∙ c.in_ok-begun.ensures.becomes in
-    on_ok_weaker c.feed_chunk.result
+    on_ok_weaker c.feed.result
     (λ k. feeds g.F.StreamFilter d.encoding d.begun d.filter m e s h b b
     (g.F.StreamFilter.added new)
     c.in_ok-begun.begun new is c.in_ok-begun.ensures.begun k.0 k.1)
-    (c.feed_chunk.ensures.given h.inner h.inner_end (decoded_stream d.encoding s) h.given)
+    (c.feed.ensures.given h.inner h.inner_end (decoded_stream d.encoding s) h.given)
 
 pub returns-then-stays-clause-longer : goal.returns-then-stays-clause-longer
 returns-then-stays-clause-longer g c = λ m e s h.
@@ -35,15 +35,15 @@ returns-else-stays-clause-given g c = λ m e s h.
     let b = c.args.bytes.now in
     let p = c.decode.new.chunk.items in
     let x = c.deref.result.now in
-    let new = c.feed_chunk-else-stays.new.self in
+    let new = c.feed-else-stays.new.self in
     let is : x ≡ decoded_after d.encoding (prefix_of d.begun) b =
     c.deref.ensures.value ∙ sym (ap (λ t. if t then b else p) c.if-stays.false)
     ∙ c.in_ok-begun.ensures.becomes in
-    on_ok_weaker c.feed_chunk-else-stays.result
+    on_ok_weaker c.feed-else-stays.result
     (λ k. feeds g.F.StreamFilter d.encoding d.begun d.filter m e s h b x
     (g.F.StreamFilter.added new)
     c.in_ok-begun.begun new is c.in_ok-begun.ensures.begun k.0 k.1)
-    (c.feed_chunk-else-stays.ensures.given h.inner h.inner_end (decoded_stream d.encoding s)
+    (c.feed-else-stays.ensures.given h.inner h.inner_end (decoded_stream d.encoding s)
     h.given)
 
 pub returns-else-stays-clause-longer : goal.returns-else-stays-clause-longer

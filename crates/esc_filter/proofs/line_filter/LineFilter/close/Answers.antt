@@ -23,5 +23,6 @@ returns-then-not-is_changed-clause-given g c = λ u limit l h.
 pub returns-in-Ok-clause-given : goal.returns-in-Ok-clause-given
 returns-in-Ok-clause-given g c = λ u limit l h.
     let d = c.in-Ok.ensures.ended true u limit l h in
-    pushed c.push_str.result (added_by c.args.self.now) c.text.result.now _ c.push_str.ensures.bytes
-    (λ e. (d.0, e ∙ ap (λ t. added_by c.args.self.now ++ t) (c.text.ensures ∙ d.1)))
+    pushed c.push_str.result (added_by c.args.self.now) c.output.result.now _
+    c.push_str.ensures.bytes
+    (λ e. (d.0, e ∙ ap (λ t. added_by c.args.self.now ++ t) (c.output.ensures ∙ d.1)))

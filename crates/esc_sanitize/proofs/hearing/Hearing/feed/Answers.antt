@@ -18,7 +18,7 @@ returns-clause-given g c = λ s h.
     c.hear.new.self c.args.bytes.now x (g.F.StreamFilter.added c.feed.new.self.filter) k.0 k.1
     c.in_ok-feed.ensures.became.1 (c.chunk.ensures ∙ c.in_ok-feed.ensures.became.0)
     (subst (λ t. Heard g.P.Admit g.B.Book c.hear.new.self (decoded_stream o.encoding s ++ x)
-    (passing_of g.P.Admit o s ++ t)) c.output_text.ensures heard) c.hear.ensures.keeps)
+    (passing_of g.P.Admit o s ++ t)) c.output.ensures heard) c.hear.ensures.keeps)
     (c.hear.ensures.heard (decoded_stream o.encoding s) (passing_of g.P.Admit o s) h.heard)
 
 pub returns-in_err-feed-clause-refused : goal.returns-in_err-feed-clause-refused

@@ -10,17 +10,17 @@ pub returns-clause-ended : goal.returns-clause-ended
 returns-clause-ended g c = λ s h.
     let old = c.args.self.now in
     let o = old.options in
-    let added = c.in_ok-finish_all.ensures.ended h.going h.closed s h.decodes in
+    let added = c.in_ok-finish.ensures.ended h.going h.closed s h.decodes in
     on_ok_weaker c.hear_end.result
     (λ heard.
     follows_end g.F.StreamFilter g.P.Admit g.B.Book o old.decoding old.auditor s h
-    c.finish_all.new.self c.hear_end.new.self (g.F.StreamFilter.added c.finish_all.new.self.filter)
+    c.finish.new.self c.hear_end.new.self (g.F.StreamFilter.added c.finish.new.self.filter)
     added
     (subst (λ t. HeardAll g.P.Admit g.B.Book c.hear_end.new.self (decoded_stream o.encoding s)
-    (passing_of g.P.Admit o s ++ t)) c.output_text.ensures heard) c.hear_end.ensures.keeps)
+    (passing_of g.P.Admit o s ++ t)) c.output.ensures heard) c.hear_end.ensures.keeps)
     (c.hear_end.ensures.ended (decoded_stream o.encoding s) (passing_of g.P.Admit o s) h.heard)
 
-pub returns-in_err-finish_all-clause-refused : goal.returns-in_err-finish_all-clause-refused
-returns-in_err-finish_all-clause-refused g c = λ s h.
+pub returns-in_err-finish-clause-refused : goal.returns-in_err-finish-clause-refused
+returns-in_err-finish-clause-refused g c = λ s h.
     on_err_any _ c.from_residual.result
-    (c.in_err-finish_all.ensures.refused h.going h.closed s h.decodes)
+    (c.in_err-finish.ensures.refused h.going h.closed s h.decodes)

@@ -17,9 +17,9 @@ returns-clause-given g c = λ s h.
     (λ z.
     runs_more g.F.StreamFilter g.P.Admit g.B.Book o s c.feed.new.self n c.args.bytes.now
     (heard_added g.F.StreamFilter c.feed.new.self) c.feed.ensures.options k.0 k.1
-    (subst (λ t. HasLeft o.window (u ++ t) n) c.output_text.ensures z.0)
+    (subst (λ t. HasLeft o.window (u ++ t) n) c.output.ensures z.0)
     (subst (λ t. final_text g.row.A.Denot o.window (u ++ t)
-    ≡ final_text g.row.A.Denot o.window u ++ left_added n t) c.output_text.ensures z.1))
+    ≡ final_text g.row.A.Denot o.window u ++ left_added n t) c.output.ensures z.1))
     (c.take.ensures.given o.window u h.1)
 
 pub returns-clause-refused : goal.returns-clause-refused

@@ -11,7 +11,7 @@ returns-clause-ended g c = λ s h.
     let k = c.in_ok-finish.ensures.ended s h.0 in
     let m = c.note.ensures in
     finishes g.F.StreamFilter V g.B.Book o s c.finish.new.self c.note.new.self c.close.new.self
-    c.output_text.result.now c.lost.result c.output_text.ensures c.lost.ensures m.same.0
+    c.output.result.now c.lost.result c.output.ensures c.lost.ensures m.same.0
     c.finish.ensures.options m.same.1 k.0 k.1 (c.in_ok-close.ensures.ended o.window u h.1)
     (c.in_ok-close.ensures.lost o.window u h.1) (m.heard s) m.noted
 
