@@ -1,4 +1,4 @@
--- What did not pass adds up: the sums of an account are those of its entries.
+-- The sums of an account are those of its entries.
 use Rattle.std.proofs.Common.{ℕ, ◌≡◌, ◌≢◌, ◌+◌, Bool, true, false, not, ◌&&◌, if◌then◌else◌, List, [], ◌∷◌, ◌++◌, length, bytes_eq, refl, sym, ap, ◌∙◌, arith}
 use Rattle.std.proofs.lemmas.Slice.Eq.{bytes_eq-Decides}
 use Rattle.esc_frame.specs.Segments.{Segment as Shape, is_finished, joined_bytes}

@@ -54,7 +54,7 @@ module _ {A : Type 0} where
       one_kept (came && is_datum v) v (brief_after true vs) (brief_after (came || is_datum v) vs)
       h.0 (few_handed_out true vs h.1) (few_handed_out (came || is_datum v) vs h.1)
 
-  -- what was kept of what a parser hands out is handed out
+  -- a brief keeps of all actions those that a parser hands out
   pub keeps_handed_out : (p q : Brief A) → p.actions.items ≡ [] → p.has_datum ≡ false
       → TookHandedOut Keeps p q → EmittedAreWritable (map value_of q.actions.items)
   keeps_handed_out p q none yet (vs, handed, took) =

@@ -1,4 +1,4 @@
--- What is entered, and what is noted of it.
+-- The characters and the entries that a ledger is given.
 use Rattle.std.proofs.Common.{ℕ, ◌≡◌, ◌≢◌, Bool, true, false, if◌then◌else◌, Result, Ok, Err, IfOk, List, [], ◌∷◌, ◌++◌, refl, ap}
 use Rattle.esc_frame.specs.Segments.{Segment as Shape, IsCut}
 use Rattle.esc_account.specs.Accounts.{Rule, all_passed, line_begun}
@@ -7,7 +7,7 @@ use Rattle.esc_account.specs.Ledgers.{LineEnters, LineGives}
 use Rattle.esc_account.specs.LineEnds.{ends_so, line_entries, run_line}
 use Rattle.esc_account.specs.declared.account.Account.{Account}
 
--- what `has_cut` and `one_cut` say
+-- the theorem of `has_cut` and `one_cut`
 abbrev pub HasCut : Type 0
 HasCut = (stream : List ℕ) → (gs : List Shape) × IsCut stream gs
 

@@ -17,7 +17,7 @@ use Rattle.esc_account.specs.declared.verdict.Verdict.{Verdict}
 abbrev pub verdict_of : Fate → Option ℕ → Verdict
 verdict_of f b = record { fate = f; before = b }
 
--- of the same kind, bytes and values
+-- the fate of segments of one kind, with the same bytes and values
 pub same_fate : {A : Type 0} (by_lines : Bool) (u : Guard) (admits : Value A → Bool)
     (b : Option ℕ) (k l : SegmentKind) (x y : List ℕ) (vs ws : List (Value A)) → k ≡ l → x ≡ y
     → vs ≡ ws → fate_of by_lines u admits b k x vs ≡ fate_of by_lines u admits b l y ws

@@ -238,7 +238,7 @@ finishes_room r y s t b es h few =
       length-append (joined_bytes h.shapes) t,
     )
 
--- what comes first, dropped
+-- the first bytes, dropped
 drop_joined : (x t : List ℕ) → drop (length x) (x ++ t) ≡ t
 drop_joined [] t = refl
 drop_joined (b ∷ x) t = drop_joined x t

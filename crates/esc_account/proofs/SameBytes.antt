@@ -41,7 +41,7 @@ ends_there t (b ∷ x) (suc m) (suc i) l e =
     ap (λ k. ends_line t (take k (b ∷ x))) (plus_suc i 1)
     ∙ ends_there (is_line_feed b) x m i (omega (arith, l)) e
 
--- what holds under a condition
+-- a fact about a result under a condition
 pub ok_given : {T E : Type 0} (P Q : Type 0) (r : Result T E) → (P → OnOk r Q) → OnOk r (P → Q)
 ok_given P Q (Ok x) f = f
 ok_given P Q (Err e) f = tt

@@ -1,4 +1,4 @@
--- What becomes of a control sequence of whose values a policy says what it admits.
+-- The fate of a control sequence by the values that a policy admits.
 use Rattle.std.proofs.Common.{ℕ, ◌≡◌, ◌+◌, ◌/◌, ◌%◌, ◌<◌, ◌≤◌, take, drop, Bool, true, false, not, ◌&&◌, ◌||◌, ◌==◌, List, [], ◌∷◌, ◌++◌, map, bytes_eq, Option, None, Some, IfSome, inl, inr, refl, ap, sym, ◌∙◌, subst, append-nil}
 use Rattle.std.specs.List.{list_all, list_any}
 use Rattle.std.proofs.lemmas.Bool.{and_parts}
@@ -131,7 +131,7 @@ module _ {A : Type 0} (l : Bool) (u : Guard) (admits : Value A → Bool) (b : Op
       (map csi (csi_of es false f)) (reading_within (Some limit) g done)
       (sym csi_kind ∙ kind) same (sym reading)
 
--- what holds of a result by a value holds by the same
+-- a result that is one value is another value that is the same
 pub some_by : {T : Type 0} (o : Option T) (x y : T) → IfSome o (λ t. t ≡ x) → x ≡ y
     → IfSome o (λ t. t ≡ y)
 some_by None x y h e = tt

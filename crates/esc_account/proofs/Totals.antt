@@ -26,7 +26,7 @@ total_run r x (g ∷ gs) =
     total_added _ (length (bytes_of g)) x.sums in
     omega (arith, i, a, length-append (bytes_of g) (joined_bytes gs))
 
--- of a whole stream
+-- the total of a whole stream
 pub total_all : (r : Rule) (gs : List Shape) → total (run r begun gs).sums
     ≡ length (joined_bytes gs)
 total_all r gs = omega (arith, total_run r begun gs)

@@ -1,4 +1,4 @@
--- What a result is, and what that is.
+-- Values of results, and equal values.
 use Rattle.std.proofs.Common.{◌≡◌, List, Result, IfOk, subst}
 use Rattle.std.specs.List.{FoldsTo}
 
@@ -6,7 +6,7 @@ pub spelled_ok : {T E : Type 0} (r : Result T E) (x y : T) → IfOk r (λ t. t �
     → IfOk r (λ t. t ≡ y)
 spelled_ok r x y h e = subst (λ z. IfOk r (λ t. t ≡ z)) e h
 
--- what holds of a result by some values holds by the same
+-- a result of some values is one of other values that are the same
 pub fed_by : {T E V : Type 0} (F : List V → T → Type 0) (r : Result T E) (x y : List V)
     → IfOk r (F x) → x ≡ y → IfOk r (F y)
 fed_by F r x y h e = subst (λ z. IfOk r (F z)) e h

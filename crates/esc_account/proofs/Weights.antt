@@ -1,4 +1,4 @@
--- What is known of values, and their fate.
+-- The facts that are known of values, and the fate of these values.
 use Rattle.std.proofs.Common.{ℕ, ◌≡◌, Bool, true, false, ◌&&◌, ◌||◌, List, [], ◌∷◌, Option, refl, ap, sym, ◌∙◌, subst}
 use Rattle.std.specs.List.{FoldsTo, list_all, list_any}
 use Rattle.esc_segments.specs.declared.kind.SegmentKind.{SegmentKind}

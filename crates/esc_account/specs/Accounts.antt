@@ -1,4 +1,4 @@
--- What becomes of the segments of a stream, and of how many bytes.
+-- The fates of the segments of a stream, and the numbers of bytes of each.
 use Rattle.std.specs.Prelude.{ℕ, ◌≡◌, ◌+◌, ◌-◌, ◌*◌, ◌<◌, ◌≤◌, ◌^◌, Bool, true, false, not, ◌==◌, ◌&&◌, if◌then◌else◌, List, [], ◌∷◌, length, get_or, Option, None, Some}
 use Rattle.esc_frame.specs.Segments.{Segment as Shape, AreSegments, IsCut, bytes_of, is_finished, joined_bytes}
 use Rattle.esc_segments.specs.declared.kind.SegmentKind.{SegmentKind}
@@ -12,7 +12,7 @@ use Rattle.esc_account.specs.declared.fate.Fate.TheVariants as fates
 use Rattle.esc_account.specs.declared.sums.Sums.{Sums}
 use Rattle.esc_account.specs.declared.verdict.Verdict.{Verdict}
 
--- what becomes of a segment by itself, finished or not, after this character, where one was written
+-- the verdict on a segment by itself, finished or not, after this character, if one was written
 -- last
 abbrev pub Rule : Type 0
 Rule = Option ℕ → Shape → Bool → Verdict
@@ -79,18 +79,18 @@ is_terminator kinds.Terminator bytes = true
 is_terminator kinds.Escape bytes = is_end bytes
 is_terminator _ bytes = false
 
--- What a string's terminator becomes: in the output `ESC \` ends the string.
+-- The fate of a string's terminator: in the output `ESC \` ends the string.
 abbrev pub end_fate : Fate → List ℕ → Fate
 end_fate fates.Passed bytes = if is_end bytes then fates.Passed else fates.Respelled
 end_fate f bytes = f
 
--- what a segment becomes after a string of this fate, where there is one: a terminator goes the way
--- of its string
+-- the fate of a segment after a string of this fate, if there is one: a terminator goes the way of
+-- its string
 abbrev pub fate_after : Option Fate → SegmentKind → List ℕ → Fate → Fate
 fate_after None k bytes own = own
 fate_after (Some f) k bytes own = if is_terminator k bytes then end_fate f bytes else own
 
--- what a terminator goes by that comes directly after the segment
+-- the fate that decides on a terminator directly after the segment
 abbrev pub carried : SegmentKind → List ℕ → Fate → Option Fate
 carried k bytes f = if awaits_terminator k bytes then Some f else None
 
@@ -101,7 +101,7 @@ abbrev pub feeds : List ℕ → ℕ
 feeds [] = 0
 feeds (b ∷ s) = if is_line_feed b then 1 + feeds s else feeds s
 
--- of no byte
+-- the account of no byte
 abbrev pub begun : Account
 begun = record { sums = nothing; string = None; before = None; lines = 0 }
 

@@ -31,7 +31,7 @@ pub record IsCommand (y after : List ℕ) : Type 0 where
   pub each : list_all is_data_byte text ≡ true
   pub ended : IsEnded text y after
 
--- what may end the bytes of an operating system command after its text
+-- the bytes that may end an operating system command after its text
 abbrev pub is_text_end : List ℕ → Bool
 is_text_end [] = true
 is_text_end (a ∷ []) = a == 0x07

@@ -86,7 +86,7 @@ order fates.LeftOut = 4
 order fates.Swallowed = 5
 order fates.Overwritten = 6
 
--- of n bytes of the fate g so many have the fate f
+-- the bytes of the fate f among n bytes of the fate g
 abbrev pub part : Fate → Fate → ℕ → ℕ
 part f g n = if order f == order g then n else 0
 

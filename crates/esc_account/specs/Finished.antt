@@ -18,8 +18,8 @@ abbrev pub ended_entries : Rule → Account → List Shape → List Entry
 ended_entries r x [] = []
 ended_entries r x (g ∷ gs) = entry_of r x g true ∷ ended_entries r (step r x g true) gs
 
--- Where `ends`, what is left begins nowhere among these segments, which the rest follows, as a
--- carriage return and a line feed and no more.
+-- If `ends`, the bytes that are left begin nowhere among these segments, which the rest follows, as
+-- a carriage return and a line feed and no more.
 abbrev pub HasNoEnd : Bool → List Shape → List ℕ → Type 0
 HasNoEnd ends [] rest = Unit {0}
 HasNoEnd ends (g ∷ gs) rest =

@@ -1,4 +1,4 @@
--- What a judge goes by.
+-- The settings of a judge.
 use Rattle.std.specs.Prelude.{ℕ, ◌≡◌, Bool}
 use Rattle.esc_filter.specs.declared.guard.Guard.{Guard}
 use Rattle.esc_account.specs.declared.policy_judge.PolicyJudge.{PolicyJudge}

@@ -64,8 +64,8 @@ pub record HasRun (r : Rule) (s t : List ℕ) (x : Account) (es : List Entry) : 
 abbrev pub IsCounted : List ℕ → Type 0
 IsCounted s = length s < 2 ^ 62
 
--- Of the stream s, of which t was written, all is in the account x but `line` and `text`, which
--- come last: lines that have ended; and P holds of their entries.
+-- The account x has all of the stream s, of which t was written, but `line` and `text`, which come
+-- last: lines that have ended; and P holds of their entries.
 pub record Stands (r : Rule) (P : List Entry → Type 0) (x : Account) (line text s t : List ℕ)
     : Type 0 where
   pub ended : List ℕ

@@ -14,8 +14,8 @@ is_return_feed _ = false
 abbrev pub ends_so : List ℕ → Bool
 ends_so s = is_return_feed (drop (length s - 2) s)
 
--- After the segments of a line, one after another. Where `ends`, a carriage return and a line feed
--- end what was written of it: once these alone are left of the line they passed.
+-- After the segments of a line, one after another. If `ends`, a carriage return and a line feed end
+-- what was written of it: once these alone are left of the line they passed.
 abbrev pub run_line : Bool → Rule → Account → List Shape → Account
 run_line ends r x [] = x
 run_line ends r x (g ∷ gs) =

@@ -77,7 +77,7 @@ joined_after b (e ∷ es) = joined_to b e ∷ joined_after (Some (joined_to b e)
 abbrev pub joined : {N : Type 0} → List (Named N) → List (Named N)
 joined es = joined_after None es
 
--- what comes last of these
+-- the last of these
 abbrev pub last_of : {N : Type 0} → Option (Named N) → List (Named N) → Option (Named N)
 last_of b [] = b
 last_of b (e ∷ es) = last_of (Some e) es

@@ -1,4 +1,4 @@
--- What becomes of a segment where a policy says which values pass: its own values tell it.
+-- The fate of a segment by a policy that says which values pass: its own values tell it.
 use Rattle.std.specs.Prelude.{ℕ, ◌≡◌, ◌⊎◌, ◌-◌, Bool, true, false, not, ◌&&◌, ◌||◌, if◌then◌else◌, List, [], ◌∷◌, ◌++◌, length, take, drop, bytes_eq, Option, None, Some}
 use Rattle.std.specs.List.{list_all, list_any}
 use Rattle.unicode_visibility.specs.Characters.{is_deceiving}
@@ -59,13 +59,13 @@ last_instead Join b c = if may_follow b c then Some c else Some 0x3e
 last_instead Show b c = Some 0x3e
 last_instead Drop b c = b
 
--- of a carriage return: none of it itself, and `M` where it is shown
+-- the last character of a carriage return: none of it itself, and `M` if it is shown
 abbrev pub last_return : Returns → Option ℕ → Option ℕ
 last_return way.Keep b = None
 last_return way.Show b = Some 0x4d
 last_return way.Drop b = b
 
--- of what is written of a value
+-- the last character that is written of a value
 abbrev pub last_written : {A : Type 0} → Guard → Option ℕ → Value A → Option ℕ
 last_written u b (print c) = if is_deceiving c then last_instead u.characters b c else Some c
 last_written u b (control c) = if is_return c then last_return u.returns b else None
@@ -81,7 +81,7 @@ abbrev pub before_after : {A : Type 0} → Guard → (Value A → Bool) → Opti
 before_after u admits b [] = b
 before_after u admits b (v ∷ vs) = before_after u admits (before_next u admits b v) vs
 
--- Something is written of it. Where lines are streams of their own, each is written with its line
+-- Something is written of it. If lines are streams of their own, each is written with its line
 -- feed, whatever the policy says.
 abbrev pub is_written : {A : Type 0} → Bool → Guard → (Value A → Bool) → Value A → Bool
 is_written by_lines u admits v =
@@ -99,7 +99,7 @@ abbrev pub is_control : {A : Type 0} → Value A → Bool
 is_control (control c) = true
 is_control _ = false
 
--- what the segment itself means, and no control that comes within a sequence or an opener
+-- the meaning of the segment itself, and no control within a sequence or an opener
 abbrev pub is_own : {A : Type 0} → SegmentKind → Value A → Bool
 is_own k v = is_lone k || not (is_control v)
 
@@ -118,13 +118,13 @@ is_spelled bytes text = bytes_eq text bytes
 abbrev pub IsAsItCame : List ℕ → List ℕ → Type 0
 IsAsItCame bytes text = (text ≡ bytes) ⊎ (text ≡ bytes ++ 0x1b ∷ 0x5c ∷ [])
 
--- what becomes of bytes that are written as this text
+-- the fate of bytes that are written as this text
 abbrev pub spelling_of : List ℕ → List ℕ → Fate
 spelling_of bytes text = if is_spelled bytes text then fates.Passed else fates.Respelled
 
--- What becomes of a segment of this kind, these bytes and these values, after this character. One
--- that means nothing of its own is swallowed; and one of which any value is not written is left out
--- whole.
+-- The fate of a segment of this kind, these bytes and these values, after this character. A segment
+-- that means nothing of its own is swallowed; and if any of its values is not written, it is left
+-- out whole.
 abbrev pub fate_of : {A : Type 0} → Bool → Guard → (Value A → Bool) → Option ℕ → SegmentKind
     → List ℕ → List (Value A) → Fate
 fate_of by_lines u admits b k bytes vs =
@@ -142,11 +142,11 @@ verdict_on by_lines u admits b k bytes vs = record {
   before = before_after u admits b vs;
 }
 
--- what is left out leaves the character before it as it was
+-- a segment that is left out leaves the character before it as it was
 abbrev pub left_as : Option ℕ → Verdict
 left_as b = record { fate = fates.LeftOut; before = b }
 
--- what becomes of a segment: by its reading under the limit
+-- the verdict on a segment: by its reading under the limit
 abbrev pub rule_of : {A : Type 0} → Bool → Guard → ℕ → (Value A → Bool) → Option ℕ → Shape
     → Bool → Verdict
 rule_of by_lines u limit admits b g finished =

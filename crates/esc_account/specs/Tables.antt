@@ -5,7 +5,7 @@ use Rattle.esc_account.specs.declared.fate.Fate.{Fate}
 use Rattle.esc_account.specs.declared.row.Row.{Row}
 use Rattle.esc_account.specs.declared.table.Table.{Table}
 
--- what the rows of this fate have in all, by this measure
+-- the sum of the rows of this fate, by this measure
 abbrev pub rows_with : {N : Type 0} → (Row N → ℕ) → Fate → List (Row N) → ℕ
 rows_with m f [] = 0
 rows_with m f (r ∷ rs) = part f r.fate (m r) + rows_with m f rs

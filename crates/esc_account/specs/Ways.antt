@@ -1,4 +1,4 @@
--- What an account goes by.
+-- The settings of an account.
 use Rattle.std.specs.Prelude.{ℕ, List}
 use Rattle.esc_account.specs.Accounts.{IsAccount, Rule}
 use Rattle.esc_account.specs.Entries.{Entry}

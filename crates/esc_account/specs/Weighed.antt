@@ -1,5 +1,5 @@
--- What is known of the values of a segment, one after another: all that its fate rests on but its
--- text.
+-- The facts that are known of the values of a segment, one after another: all that its fate rests
+-- on but its text.
 use Rattle.std.specs.Prelude.{ℕ, Bool, true, false, not, ◌&&◌, ◌||◌, if◌then◌else◌, List, [], ◌∷◌, Option}
 use Rattle.esc_segments.specs.declared.kind.SegmentKind.{SegmentKind}
 use Rattle.esc_actions.specs.Values.{Value}
@@ -9,11 +9,11 @@ use Rattle.esc_account.specs.declared.fate.Fate.{Fate}
 use Rattle.esc_account.specs.declared.fate.Fate.TheVariants as fates
 use Rattle.esc_account.specs.declared.weighed.Weighed.{Weighed}
 
--- of none, after this character
+-- the facts of no value, after this character
 abbrev pub unweighed : Option ℕ → Weighed
 unweighed b = record { has_own = false; writes_all = true; shows_some = false; last = b }
 
--- of one more, in a segment of this kind that comes after this character
+-- the facts of one value more, in a segment of this kind that comes after this character
 abbrev pub weighed_with : {A : Type 0} → Bool → Guard → (Value A → Bool) → Option ℕ → SegmentKind
     → Weighed → Value A → Weighed
 weighed_with by_lines u admits b k w v = record {
@@ -29,7 +29,7 @@ weighed_all by_lines u admits b k w [] = w
 weighed_all by_lines u admits b k w (v ∷ vs) =
     weighed_all by_lines u admits b k (weighed_with by_lines u admits b k w v) vs
 
--- what becomes of a segment of this kind, these bytes and this text, of whose values this is known
+-- the fate of a segment of this kind, these bytes and this text, by the facts of its values
 abbrev pub fate_by : Weighed → SegmentKind → List ℕ → List ℕ → Fate
 fate_by w k bytes text =
     if not w.has_own then fates.Swallowed

@@ -1,4 +1,4 @@
--- What weighs the actions of a segment.
+-- The weights of the actions of a segment.
 use Rattle.std.specs.Prelude.{ℕ, ◌≡◌, Bool, Option}
 use Rattle.esc_segments.specs.declared.kind.SegmentKind.{SegmentKind}
 use Rattle.esc_actions.specs.Values.{Value}
@@ -15,7 +15,7 @@ pub record HasWeighed {P A : Type 0} (w : Weighing P A) (j : PolicyJudge P A) (b
   pub kind : w.kind ≡ k
   pub weighed : w.weighed ≡ known
 
--- of no value yet
+-- the weight of no value yet
 abbrev pub BeginsWeighing : {P A : Type 0} → Weighing P A → PolicyJudge P A → Option ℕ
     → SegmentKind → Type 0
 BeginsWeighing w j b k = HasWeighed w j b k (unweighed b)

@@ -1,4 +1,4 @@
--- What a ledger of a stream that is one has heard.
+-- The stream that a ledger has heard as one.
 use Rattle.std.specs.Prelude.{ℕ, ◌≡◌, false, List, length}
 use Rattle.esc_frame.specs.Segments.{Segment as Shape, IsCut}
 use Rattle.esc_account.specs.Accounts.{begun, run, total}

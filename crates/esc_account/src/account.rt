@@ -22,7 +22,7 @@ use esc_frame::laws;
 use esc_segments::{Segment, SegmentKind};
 use std::alloc::{AllocError, Allocator};
 
-/// What became of the bytes of a stream so far.
+/// The fates of the bytes of a stream so far.
 ///
 /// ```
 /// let judge = PolicyJudge::by_lines(alloc, 65_536, Policy::Color, Unicode::Keep);
@@ -44,7 +44,7 @@ pub struct Account {
 }
 
 impl Account {
-    /// Of no byte.
+    /// Makes the account of no byte.
     pub fn new() -> Account
         ensures { result ≡ begun }
     {
@@ -252,7 +252,7 @@ fn ends_string(string: Option<Fate>, kind: SegmentKind, bytes: &[u8]) -> bool
     }
 }
 
-// What a terminator after the segment goes by.
+// Returns the fate that decides on a terminator after the segment.
 fn carried(kind: SegmentKind, bytes: &[u8], fate: Fate) -> Option<Fate>
     ensures { result ≡ carried kind bytes.now fate }
 {

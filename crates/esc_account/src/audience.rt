@@ -16,7 +16,7 @@ pub trait Tap<A: Allocator> {
     // the same of one that has ended
     ghost heard_all: { Self → List ℕ → List ℕ → Type 0 };
 
-    // what it goes by, which stays
+    // its settings, which stay
     ghost goes_by: { Self → Way };
 
     /// Hears bytes more, and the text that was written of them. `AllocError` says that a request
@@ -35,7 +35,7 @@ pub trait Tap<A: Allocator> {
         ensures refused { OnErr result (Refused A) };
 }
 
-// What is lent.
+// A lent tap.
 impl<K: Tap<A>, A: Allocator> Tap<A> for &mut K {
     ghost heard = { λ k s t. K.heard k.now s t };
 

@@ -1,4 +1,4 @@
-//! Where the entries of an account are written.
+//! The book in which the entries of an account are written.
 #![tactic(auto)]
 
 ghost use Rattle.std.specs.Prelude.{◌≡◌, ◌++◌, ◌∷◌, List, [], OnErr, OnOk};

@@ -9,7 +9,7 @@ use esc_segments::Segment;
 pub struct Entry<'a> {
     /// The segment.
     pub segment: Segment<'a>,
-    /// What became of it.
+    /// The fate of the segment.
     pub fate: Fate,
     /// How many bytes of the stream come before it.
     pub place: u64,

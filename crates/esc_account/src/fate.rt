@@ -1,12 +1,12 @@
-//! What becomes of bytes.
+//! The fates of bytes.
 #![tactic(auto)]
 
-/// What becomes of the bytes of a segment.
+/// The fate of the bytes of a segment.
 #[derive(Clone, Copy, PartialEq, Eq, Debug)]
 pub enum Fate {
     /// They are in the output as they came.
     Passed,
-    /// What they mean is in the output, in another spelling.
+    /// Their meaning is in the output, in another spelling.
     Respelled,
     /// They are in the output as visible text that stands for them.
     Shown,

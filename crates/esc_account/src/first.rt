@@ -1,4 +1,4 @@
-//! What comes first of some bytes.
+//! The first parts of some bytes.
 #![tactic(auto)]
 
 ghost use Rattle.std.specs.Prelude.{◌≡◌, ◌&&◌, ◌<◌, ◌≤◌, IfSome, List, MatchOption, None, [], drop, false, length, true};
@@ -83,7 +83,7 @@ fn is_return_feed(bytes: &[u8]) -> bool
     bytes.len() == 2 && bytes[0] == 0x0d && bytes[1] == 0x0a
 }
 
-/// What comes after so many of the bytes.
+/// Returns the bytes after so many.
 pub(crate) fn after(bytes: &[u8], count: usize) -> &[u8]
     requires { count ≤ length bytes.now }
     ensures { result.now ≡ drop count bytes.now }

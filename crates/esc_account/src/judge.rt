@@ -16,13 +16,12 @@ use std::alloc::{AllocError, Allocator};
 /// Says of a segment what becomes of it by itself: a [`PolicyJudge`](crate::PolicyJudge), or a rule
 /// of the caller's own.
 pub trait Judge<A: Allocator> {
-    // what becomes of each segment, finished or not, after each character
+    // the verdict on each segment, finished or not, after each character
     ghost rule: { Self → Option ℕ → Shape → Bool → Verdict };
 
-    /// What becomes of this segment, which is the first of those that are left of a stream, and
-    /// is written after `before`, where a character comes before it. Of any other value of the type
-    /// nothing is said but that the call returns. `AllocError` says that a request for memory was
-    /// refused.
+    /// Judges this segment, which is the first of those that are left of a stream, and is written
+    /// after `before`, if a character comes before it. About any other value of the type nothing is
+    /// said but that the call returns. `AllocError` says that a request for memory was refused.
     fn verdict(&self, before: Option<char>, segment: Segment<'_>) -> Result<Verdict, AllocError>
         ensures given { (g : Shape) (gs : List Shape) → AreSegments (g ∷ gs)
             → IsItem segment.entry g (joined_bytes gs)

@@ -28,8 +28,8 @@ pub fn each_byte_has_one_fate()
         ≡ length (joined_bytes gs) }
 {}
 
-/// Where no segment is unfinished the account goes on: into whatever blocks a stream is divided
-/// there, it is the same.
+/// The account goes on if no segment is unfinished: into whatever blocks a stream is divided there,
+/// it is the same.
 pub fn blocks_go_on()
     ensures { (r : Rule) (s b : List ℕ) (x y : Account) → IsAtGround s → IsAccount r s x
         → GoesOn r x b y → IsAccount r (s ++ b) y }
@@ -59,7 +59,7 @@ pub fn each_lies_at_its_place()
     ensures { (r : Rule) (gs : List Shape) → AllLie (joined_bytes gs) (entries r begun gs) }
 {}
 
-/// What did not pass adds up: of each other fate a stream has so many bytes as its entries have.
+/// Entries add up: a stream has so many bytes of each fate but `Passed` as its entries have.
 pub fn entries_add_up()
     ensures whole { (f : End) (r : Rule) (gs : List Shape) → is_passed f ≡ false
         → count_of f (run r begun gs).sums ≡ bytes_with f (noted_entries (entries r begun gs)) }

@@ -24,7 +24,7 @@ pub struct Ledger<J, B, A: Allocator = Global> {
     judge: J,
     book: B,
     account: Account,
-    // what is unfinished
+    // the unfinished segment
     rest: Vec<u8, A>,
     // how many bytes are kept before these are cut again
     next: usize,
@@ -48,7 +48,7 @@ impl<J: Judge<A>, B: Book<A>, A: Allocator> Ledger<J, B, A> {
         }
     }
 
-    /// What became of the bytes of the segments that are finished, and of all once the stream has
+    /// Returns the account of the segments that are finished, and of all bytes once the stream has
     /// ended.
     pub fn account(&self) -> Account
         ensures { result ≡ self.now.account }
@@ -56,14 +56,14 @@ impl<J: Judge<A>, B: Book<A>, A: Allocator> Ledger<J, B, A> {
         self.account
     }
 
-    /// What did not pass.
+    /// Returns the book of the bytes that did not pass.
     pub fn book(&self) -> &B
         ensures { result.now ≡ self.now.book }
     {
         &self.book
     }
 
-    /// What did not pass, of a stream of which nothing more comes.
+    /// Returns the book of the bytes that did not pass. Nothing more may come of the stream.
     pub fn into_book(self) -> B
     where
         J: Drop,

@@ -27,9 +27,9 @@ pub struct LineLedger<J, B, A: Allocator = Global> {
     judge: J,
     book: B,
     account: Account,
-    // of the last line
+    // the bytes of the last line
     line: Vec<u8, A>,
-    // what was written of it
+    // the text that was written of it
     text: Vec<u8, A>,
     // whether neither is known to have a line feed
     is_open: bool,
@@ -54,21 +54,21 @@ impl<J: Judge<A>, B: Book<A>, A: Allocator> LineLedger<J, B, A> {
         }
     }
 
-    /// What became of the bytes of the lines that have ended, and of all once the stream has.
+    /// Returns the account of the lines that have ended, and of all bytes once the stream has.
     pub fn account(&self) -> Account
         ensures { result ≡ self.now.account }
     {
         self.account
     }
 
-    /// What did not pass.
+    /// Returns the book of the bytes that did not pass.
     pub fn book(&self) -> &B
         ensures { result.now ≡ self.now.book }
     {
         &self.book
     }
 
-    /// What did not pass, of a stream of which nothing more comes.
+    /// Returns the book of the bytes that did not pass. Nothing more may come of the stream.
     pub fn into_book(self) -> B
     where
         J: Drop,

@@ -22,7 +22,7 @@ use esc_segments::{Segment, SegmentKind};
 use std::alloc::{AllocError, Allocator};
 
 impl Account {
-    /// The account of a line too, of which each segment has the fate that the judge says. Where
+    /// The account of a line too, of which each segment has the fate that the judge says. If
     /// `ends`, a carriage return and a line feed end what was written of it: once these alone are
     /// left of the line they passed.
     pub(crate) fn line_run<A: Allocator, J: Judge<A>, B: Book<A>>(
@@ -75,7 +75,7 @@ impl Account {
     }
 
     /// The account of the segments of these bytes that are finished, and how many bytes these are.
-    /// Where `ends`, a carriage return and a line feed that end the bytes are not entered.
+    /// If `ends`, a carriage return and a line feed that end the bytes are not entered.
     pub(crate) fn finished_entered<A: Allocator, J: Judge<A>, B: Book<A>>(
         self,
         judge: &J,

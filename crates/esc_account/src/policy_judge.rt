@@ -36,9 +36,9 @@ use unicode_visibility::may_follow;
 ///
 /// The actions of the segment tell it, as the filter reads them. A segment that means nothing of
 /// its own is swallowed, whatever controls come within it: a string that nothing reads, a sequence
-/// that is malformed or cut short, a control 80, 81 or 99, and a terminator that ends no string.
-/// One of whose actions any does not pass is left out, whole. Of one whose actions all pass the
-/// text is compared with its bytes.
+/// that is malformed or cut short, a control 80, 81 or 99, and a terminator that ends no string. A
+/// segment is left out, whole, if any of its actions does not pass. If all of them pass, their text
+/// is compared with the bytes of the segment.
 #[derive(Drop)]
 pub struct PolicyJudge<P, A: Allocator = Global> {
     policy: P,
@@ -51,15 +51,16 @@ pub struct PolicyJudge<P, A: Allocator = Global> {
 impl<P, A: Allocator> PolicyJudge<P, A> {
     ghost use Rattle.esc_account.specs.Judges.{GoesBy};
 
-    /// What a [`Filter`](esc_filter::Filter) does, which keeps at most `limit` bytes of a segment.
+    /// Judges as a [`Filter`](esc_filter::Filter) does, which keeps at most `limit` bytes of a
+    /// segment.
     pub fn new(alloc: A, limit: usize, policy: P, unicode: Unicode) -> Self
         ensures { GoesBy result false (of_unicode unicode) limit policy }
     {
         PolicyJudge::with_guard(alloc, limit, policy, Guard::of_unicode(unicode), false)
     }
 
-    /// What a [`LineFilter`](esc_filter::LineFilter) does, which writes the line feed of each line
-    /// whatever the policy says.
+    /// Judges as a [`LineFilter`](esc_filter::LineFilter) does, which writes the line feed of each
+    /// line whatever the policy says.
     pub fn by_lines(alloc: A, limit: usize, policy: P, unicode: Unicode) -> Self
         ensures { GoesBy result true (of_unicode unicode) limit policy }
     {

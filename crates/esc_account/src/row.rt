@@ -4,17 +4,17 @@
 use crate::fate::Fate;
 use crate::place::Place;
 
-/// What of a stream has one fate and one name.
+/// The segments of a stream that have one fate and one name.
 #[derive(Clone, Copy, Debug)]
 pub struct Row<N> {
-    /// What became of it.
+    /// The fate of the segments.
     pub fate: Fate,
-    /// What it is called.
+    /// The name of the segments.
     pub name: N,
     /// How many segments there are, but for the terminators of strings.
     pub count: u64,
     /// How many bytes they have, with the terminators.
     pub bytes: u64,
-    /// Where the first of them is.
+    /// The place of the first of them.
     pub first: Place,
 }

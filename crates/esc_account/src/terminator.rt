@@ -44,8 +44,8 @@ pub fn is_terminator(kind: SegmentKind, bytes: &[u8]) -> bool
     }
 }
 
-/// What becomes of a segment that by itself has this fate, after a string that had that one: the
-/// terminator of a string goes the way of the string. Where the string passed, `ESC \` ends it in
+/// Returns the fate of a segment that by itself has this fate, after a string that had that one:
+/// the terminator of a string goes the way of the string. If the string passed, `ESC \` ends it in
 /// the output too, and any other terminator is respelled.
 pub fn fate_after(string: Option<Fate>, kind: SegmentKind, bytes: &[u8], own: Fate) -> Fate
     ensures { result ≡ fate_after string kind bytes.now own }

@@ -5,7 +5,7 @@ use crate::fate::Fate;
 /// The fate of a segment, and the character that is written last after it.
 #[derive(Clone, Copy, PartialEq, Eq, Debug)]
 pub struct Verdict {
-    /// What becomes of its bytes.
+    /// The fate of its bytes.
     pub fate: Fate,
     /// The character that comes before what is written next, where a character does: a variation
     /// selector or a joiner may belong to it.

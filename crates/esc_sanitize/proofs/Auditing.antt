@@ -1,4 +1,4 @@
--- What an auditor tells of a stream that has ended.
+-- The end of a stream, in the words of an auditor.
 use Rattle.std.proofs.Common.{ℕ, ◌≡◌, ◌+◌, ◌-◌, ◌<◌, ◌^◌, min, arith, true, false, if◌then◌else◌, Option, None, Some, is_some, List, [], ◌∷◌, length, refl, sym, ap, ◌∙◌, subst}
 use Rattle.esc_account.specs.Accounts.{Rule, total}
 use Rattle.esc_account.specs.Judges.{GoesBy}
@@ -82,7 +82,7 @@ pub shown_pass : (m : Option Marking) (r : Rule) (o n : Option ℕ) (x : List �
     → IsPassing r o x n → IsPassing (λ b g f. shown_as m (bytes_of g) (r b g f)) o x n
 shown_pass m r o n x h = (h.0, h.1, all_shown m r o n h.0 h.2)
 
--- what is left out is so where nothing is shown
+-- bytes that are left out are so if nothing is shown
 pub shown_left : (m : Option Marking) (r : Rule) (x : List ℕ) → is_some m ≡ false
     → IsLeftOut r x → IsLeftOut (λ b g f. shown_as m (bytes_of g) (r b g f)) x
 shown_left None r x none h = record {

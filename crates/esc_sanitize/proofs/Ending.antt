@@ -1,4 +1,4 @@
--- What is written of a stream, in the words of the options.
+-- The text that is written of a stream, in the words of the options.
 use Rattle.std.proofs.Common.{ℕ, ◌≡◌, Bool, true, false, List, Result, Some, refl, subst}
 use Rattle.std.specs.declared.io.traits.Read.{Ghosts as Reader}
 use Rattle.std.specs.declared.io.traits.Write.{Ghosts as Writer}

@@ -1,4 +1,4 @@
--- What is written is of pieces.
+-- Each text that is written consists of pieces.
 use Rattle.std.proofs.Common.{ℕ, ◌≡◌, Bool, true, false, List, Option, Some, None, refl, sym, subst}
 use Rattle.esc_actions.specs.Values.{Value}
 use Rattle.esc_filter.proofs.Output.AdmittedTextsAreUnits.{least}
@@ -73,7 +73,7 @@ module _ (A : Type 0) (k : Bool)
 
 module _ (A : Type 0) (final : (z : Size) (s : List ℕ) → IsColorText (final_of z (values_of A s)))
     (left : (z : Size) (s : List ℕ) → IsColorText (left_of z (values_of A s))) where
-  -- of rows that may be written again, whatever goes in
+  -- the text of rows that may be written again, whatever goes in
   rows_left : (z : Size) (b : Bool) (u t : List ℕ) → is_left_by A (Some z) b u t → IsColorText t
   rows_left z true u t e = subst IsColorText (sym e) (left z u)
   rows_left z false u t e = subst IsColorText (sym e) (final z u)

@@ -80,7 +80,7 @@ finishes {A = A} G V W o s k j n x count is lost same old decodes heard more add
 
 -- ---- as what takes a stream in pieces
 
--- what it gives by its options
+-- the text that it gives by its options
 pub runs_by : {F P B A : Type 0} (G : Feeder F A) (V : Admitter P A) (W : Writer B A)
     (k : Staged F P B A) (m c : List ℕ → List ℕ) (s : List ℕ) → Gives G V W k m c s
     → IsRun G V W (options_of k).encoding (way_by V (options_of k)) (passed_of V (options_of k))

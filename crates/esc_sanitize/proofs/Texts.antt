@@ -35,7 +35,7 @@ nothing_decoded Utf8 = refl
 nothing_decoded EightBit = refl
 nothing_decoded (CodePage p) = refl
 
--- what is revealed by this rule is that by the options
+-- the text that is revealed by this rule is that by the options
 module _ {P A : Type 0} (V : Admitter P A) (rule : Rule P) (o : FilterOptions P) (k : Marking)
     (limit : rule.limit ≡ o.limit) (lines : (rule.by_lines ≡ o.by_lines) × (rule.marking ≡ k))
     (policy : rule.policy ≡ o.policy) where
@@ -79,7 +79,7 @@ whole_adds u limit p = record {
       let vs = passed_as u (Some limit) p s in (list_text (closing p vs), closed_more p vs);
 }
 
--- of lines
+-- the text of lines only grows
 pub lines_add : {A : Type 0} (u : Guard) (limit : ℕ) (p : Value A → Bool)
     → OnlyAdds (text_by_lines_as {A = A} u limit p) (closed_by_lines_as u limit p)
 lines_add u limit p = record {
@@ -87,7 +87,7 @@ lines_add u limit p = record {
   end = closed_longer u limit p;
 }
 
--- of lines in which renditions go on
+-- the text of lines in which renditions go on only grows
 pub resumed_add : {A : Type 0} (u : Guard) (limit : ℕ) (p : Value A → Bool)
     → OnlyAdds (resumed_text {A = A} true u limit p) (resumed_closed {A = A} true u limit p)
 resumed_add u limit p = record {

@@ -36,7 +36,7 @@ HeardAll V W auditors.Nobody s t = Unit {0}
 HeardAll V W (auditors.Lines k n) s t = IsCounted s → Tells (ruler V) W k s t
 HeardAll V W (auditors.Whole k n) s t = IsCounted s → Closes (ruler V) W k s
 
--- what it goes by
+-- its settings
 abbrev pub way_of : {P B A : Type 0} → Admitter P A → Auditor P B A → Way
 way_of V auditors.Nobody = silent_way
 way_of V (auditors.Lines k n) = by_lines (judged_rule V k.judge)
@@ -66,7 +66,7 @@ book_of auditors.Nobody = None
 book_of (auditors.Lines k n) = Some k.book
 book_of (auditors.Whole k n) = Some k.book
 
--- of no byte where it keeps none
+-- its account, or that of no byte if it keeps none
 abbrev pub account_or_none : Option Account → Account
 account_or_none None = begun
 account_or_none (Some x) = x

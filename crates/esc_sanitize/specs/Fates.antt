@@ -1,4 +1,4 @@
--- What becomes of bytes, where what is not in the output may be shown.
+-- The fates of bytes, if bytes that are not in the output may be shown.
 use Rattle.std.specs.Prelude.{ℕ, ◌-◌, nat_le, nat_lt, ◌&&◌, Bool, true, false, if◌then◌else◌, List, get_or, length, Option, None, Some, is_some}
 use Rattle.esc_account.specs.declared.fate.Fate.{Fate}
 use Rattle.esc_account.specs.declared.fate.Fate.TheVariants as fates
@@ -36,7 +36,7 @@ before_shown (Some markings.Plain) s = last_shown s
 before_shown (Some markings.Escaped) s = last_shown s
 before_shown (Some markings.Reversed) s = None
 
--- what becomes then of a segment of these bytes
+-- the verdict then on a segment of these bytes
 abbrev pub shown_as : Option Marking → List ℕ → Verdict → Verdict
 shown_as show bytes v = record {
   fate = shown_by (is_some show) v.fate;

@@ -1,4 +1,4 @@
--- What becomes of a segment by the options.
+-- The fate of a segment by the options.
 use Rattle.esc_account.specs.Accounts.{Rule}
 use Rattle.esc_account.specs.Rules.{rule_of}
 use Rattle.esc_filter.specs.declared.admit.Admit.{Ghosts as Admitter}

@@ -20,7 +20,8 @@ abbrev pub lost_of_stream : {P A : Type 0} → Admitter P A → FilterOptions P 
 lost_of_stream {A = A} V o s = lost_in A o.window (passed_of V o s)
 
 -- So many bytes count as overwritten: of those that passed, then of those that are shown, then of
--- those that are replaced, and all of these where they are fewer. What is written of them prints.
+-- those that are replaced, and all of these if they are fewer. The text that is written of them
+-- prints.
 abbrev pub past_passed : ℕ → Sums → ℕ
 past_passed n x = n - x.passed
 

@@ -1,4 +1,4 @@
--- What is left of the lines of a text that comes in pieces.
+-- The rest of the lines of a text that comes in pieces.
 use Rattle.std.specs.Prelude.{ℕ, ◌≡◌, List, [], Option, Some, None, string_bytes}
 use Rattle.line_collapse.specs.Fed.{HasConsumed, added_by}
 use Rattle.line_collapse.specs.Windows.{Size}
@@ -14,7 +14,7 @@ HasLeft r u (left.Rows a c) = (z : Size) × (r ≡ Some z) × HasConsumed z u c
 HasLeft r u (left.Last t n) = ⊥
 HasLeft {A} r u left.Refused = Refused A
 
--- what the last call added, which took this text
+-- the text that the last call added, which took this text
 abbrev pub left_added : {A : Type 0} → Left A → List ℕ → List ℕ
 left_added left.All t = t
 left_added (left.Rows a c) t = added_by c

@@ -1,4 +1,4 @@
--- What is written of a stream under options.
+-- The text that is written of a stream under options.
 use Rattle.std.specs.Prelude.{ℕ, ◌≡◌, Bool, true, false, List, Option, Some, None}
 use Rattle.esc_actions.specs.Values.{Value}
 use Rattle.esc_decode.specs.Decodings.{decoded_stream}
@@ -17,8 +17,7 @@ use Rattle.esc_sanitize.specs.declared.options.FilterOptions.{FilterOptions}
 
 -- ---- what goes to the filter
 
--- of what the stream becomes by its encoding: that, or where what does not pass is shown, what is
--- revealed of it
+-- the text of the decoded stream: itself, or, if bytes that do not pass are shown, its visible form
 abbrev pub revealed_by : {P A : Type 0} → Admitter P A → FilterOptions P → Option Marking → List ℕ
     → List ℕ
 revealed_by V o None s = s
@@ -30,7 +29,7 @@ abbrev pub revealed_whole_by : {P A : Type 0} → Admitter P A → FilterOptions
 revealed_whole_by V o None s = s
 revealed_whole_by V o (Some m) s = revealed_whole_as m o.by_lines o.limit (V.admits o.policy) s
 
--- of the stream, which has ended or goes on
+-- the text of the stream, which has ended or goes on
 abbrev pub seen_by : {P A : Type 0} → Admitter P A → FilterOptions P → Bool → List ℕ → List ℕ
 seen_by V o true s = revealed_whole_by V o o.show (decoded_stream o.encoding s)
 seen_by V o false s = revealed_by V o o.show (decoded_stream o.encoding s)
@@ -79,12 +78,12 @@ passed_of V o s = closed_of V o (decoded_stream o.encoding s)
 
 -- ---- what is left of the lines of a text
 
--- of a text that goes on, where rows of a screen may be written again, those that may not any more
+-- the final rows of a text that goes on, if rows of a screen may be written again
 abbrev pub final_text : Type 0 → Option Size → List ℕ → List ℕ
 final_text A None u = u
 final_text A (Some z) u = final_of z (values_of A u)
 
--- of one that has ended, all rows
+-- all rows of a text that has ended
 abbrev pub left_text : Type 0 → Option Size → List ℕ → List ℕ
 left_text A None u = u
 left_text A (Some z) u = left_of z (values_of A u)
@@ -121,9 +120,9 @@ abbrev pub OfAllWritten : {P A : Type 0} → Admitter P A → FilterOptions P �
 OfAllWritten V o C = ((s : List ℕ) → C (text_of V o s)) × ((s : List ℕ) → C (going_of V o s))
     × ((b : Bool) (s t : List ℕ) → IsWritten V o b s t → C t)
 
--- What is written is plain text where the policy admits no more than `Text`, and rows may not be
--- written again; and text of characters, renditions and links where it admits no more than `Color`,
--- and wherever rows may be written again.
+-- The output is plain text if the policy admits no more than `Text`, and rows may not be written
+-- again; and it is text of characters, renditions and links if it admits no more than `Color`, and
+-- wherever rows may be written again.
 pub record IsOfTokens {P A : Type 0} (V : Admitter P A) (o : FilterOptions P) : Type 0 where
   pub plain : o.window ≡ None → AdmitsAtMost policy.Text (V.admits o.policy)
       → OfAllWritten V o IsPlainText

@@ -22,8 +22,8 @@ pub enum Auditor<P, B, A: Allocator = Global> {
 impl<P: Admit<A> + Drop, B: Book<A> + Drop, A: Allocator + Copy> Auditor<P, B, A> {
     ghost use Rattle.esc_sanitize.specs.Audits.{Heard, account_of, book_of, way_by, way_of};
 
-    /// Of no byte yet: of a stream that is filtered by these options; what did not pass is written
-    /// into this book. Takes no memory.
+    /// Makes the auditor of no byte yet of a stream that is filtered by these options; bytes that
+    /// did not pass are written into this book. Takes no memory.
     pub fn new(alloc: A, options: FilterOptions<P>, book: B) -> Auditor<P, B, A>
         ensures heard { B.was_given book [] → Heard P.Admit B.Book result [] [] }
         ensures way { way_of P.Admit result ≡ way_by P.Admit options }

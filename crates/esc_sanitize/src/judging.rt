@@ -1,4 +1,4 @@
-//! What becomes of a segment by the options.
+//! The fate of a segment by the options.
 ghost use Rattle.std.specs.Prelude.{◌≡◌, is_some};
 ghost use Rattle.esc_account.specs.Rules.{is_written};
 ghost use Rattle.esc_actions.specs.Values.{value_of};
@@ -80,7 +80,7 @@ impl<P: Admit<A>, A: Allocator + Copy> Judge<A> for Judging<P, A> {
     }
 }
 
-// What becomes of a segment of these bytes, where what is not in the output may be shown.
+// Judges a segment of these bytes, if bytes that are not in the output may be shown.
 fn shown_as(show: Option<Marking>, bytes: &[u8], verdict: Verdict) -> Verdict
     ensures { result ≡ shown_as show bytes.now verdict }
 {
@@ -102,7 +102,7 @@ fn is_seen(shows: bool, fate: Fate) -> bool
     shows && matches!(fate, Fate::LeftOut | Fate::Swallowed | Fate::Replaced)
 }
 
-// What becomes of what has this fate, where what is not in the output may be shown.
+// Returns the fate of bytes of this fate, if bytes that are not in the output may be shown.
 fn shown_by(shows: bool, fate: Fate) -> Fate
     ensures { result ≡ shown_by shows fate }
 {

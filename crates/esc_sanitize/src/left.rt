@@ -1,4 +1,4 @@
-//! What is left of the lines of a text.
+//! The rest of the lines of a text.
 ghost use Rattle.std.specs.Prelude.{◌≡◌, ◌++◌, ℕ, List, [], IfOk, OnErr, OnOk, Option, string_bytes};
 ghost use Rattle.line_collapse.specs.Fed.{HasConsumed};
 ghost use Rattle.line_collapse.specs.Streams.{final_of, left_of, values_of};
@@ -8,12 +8,12 @@ ghost use Rattle.fallible_alloc.specs.Refusals.{Refused};
 use line_collapse::{LineCollapser, Window};
 use std::alloc::{AllocError, Allocator, Global};
 
-/// What is written of a text.
+/// The part of a text that is written.
 #[derive(Drop)]
 pub enum Left<A: Allocator = Global> {
     /// All of it.
     All,
-    /// What is left of its lines.
+    /// The rest of its lines.
     Rows(A, LineCollapser<A>),
     /// The same of a text that has ended: what its end added, and how much of what was printed
     /// stands in no row, if that is counted.
@@ -88,7 +88,7 @@ impl<A: Allocator + Copy> Left<A> {
         }
     }
 
-    /// What the last call added, which took this text.
+    /// Returns the text that the last call added, which took this text.
     pub fn added<'b>(&'b self, text: &'b str) -> &'b str
         ensures { result.now ≡ left_added self.now text.now }
     {

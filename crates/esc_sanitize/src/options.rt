@@ -12,7 +12,7 @@ const DEFAULT_LIMIT: usize = 1_048_576;
 /// How a stream is filtered: what the options of the program `escfilter` say of that.
 #[derive(Clone, Copy)]
 pub struct FilterOptions<P> {
-    /// What passes: a [`Policy`], [`Groups`](esc_filter::Groups), or an
+    /// The values that pass: a [`Policy`], [`Groups`](esc_filter::Groups), or an
     /// [`Admit`](esc_filter::Admit) of one's own.
     pub policy: P,
     /// How many bytes are kept of an unfinished sequence or string.
@@ -23,11 +23,12 @@ pub struct FilterOptions<P> {
     /// line begins, so that a line looks as it does in the stream, and also by itself; else each
     /// line begins plain.
     pub resumes: bool,
-    /// What is written of characters and carriage returns that hide or reorder text.
+    /// The text in place of characters and carriage returns that hide or reorder text.
     pub guard: Guard,
-    /// How the bytes are read. In `Encoding::Utf8` bytes 80 to 9F that are no part of a character
-    /// are replaced, and in `Encoding::EightBit` they are controls of C1. Where what does not pass
-    /// is shown the program reads a stream of UTF-8 in the latter, so that it replaces none.
+    /// The encoding of the bytes. In `Encoding::Utf8` bytes 80 to 9F that are no part of a
+    /// character are replaced, and in `Encoding::EightBit` they are controls of C1. If bytes that
+    /// do not pass are shown, the program reads a stream of UTF-8 in the latter, so that it
+    /// replaces none.
     pub encoding: Encoding,
     /// How what does not pass is shown in its place; where none, it is left out.
     pub show: Option<Marking>,
@@ -94,7 +95,7 @@ fn is_for_reading(policy: Policy) -> bool
     }
 }
 
-// What is written then of what hides or reorders text.
+// Returns the guard by which characters are written that hide or reorder text.
 fn guard_of(policy: Policy) -> Guard
     ensures { result ≡ guard_of policy }
 {

@@ -113,10 +113,10 @@ impl<P: Admit<A> + Drop, A: Allocator + Copy> Sanitizer<P, A> {
         }
     }
 
-    /// What became of the bytes of the stream: of those of the lines, or of the segments, that have
-    /// ended; and of all, once [`finish`](Self::finish) has returned `Ok`. Its sums then add up to
-    /// the length of what the stream becomes by its encoding, where that is less than 2^62. Of no
-    /// byte where the options ask for no account.
+    /// Returns the account of the lines, or of the segments, that have ended; and of all bytes,
+    /// once [`finish`](Self::finish) has returned `Ok`. Its sums then add up to the length of the
+    /// decoded stream, if that is less than 2^62. It is the account of no byte if the options ask
+    /// for none.
     pub fn account(&self) -> Account
         ensures { result ≡ account_in self.now }
     {

@@ -32,12 +32,12 @@ pub struct Sanitized<P, B, A: Allocator = Global> {
     pub auditor: Auditor<P, B, A>,
 }
 
-/// Writes on `writer` what passes by the options of what `reader` reads, as it comes: of each line,
-/// or of the whole; where what does not pass is shown, that in place; and of it all what is left of
-/// the lines, where these may be written again. It returns what
-/// [`filter_lines`](esc_filter::filter_lines) does, or
-/// [`filter_stream`](esc_filter::filter_stream). Where the policy admits no more than
-/// `Policy::Color`, what is written is made of characters, renditions and links.
+/// Writes on `writer` the values of the stream of `reader` that pass by the options, as they come:
+/// those of each line, or of the whole stream; the visible form of those that do not pass, if the
+/// options show it; and of all this the rest of the lines, if rows may be written again. It returns
+/// the results of [`filter_lines`](esc_filter::filter_lines), or of
+/// [`filter_stream`](esc_filter::filter_stream). If the policy admits no more than `Policy::Color`,
+/// the output is made of characters, renditions and links.
 ///
 /// On `Ok` the auditor has the account of the stream by the options, where they ask for one and it
 /// has less than 2^62 bytes: of the lines of what the stream becomes by its encoding, each with

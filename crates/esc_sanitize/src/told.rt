@@ -11,12 +11,12 @@ use esc_filter::{Admit, StreamFilter};
 use std::alloc::{AllocError, Allocator, Global};
 use std::marker::{Brand, PhantomData};
 
-/// What stays the same while a stream is filtered, for proofs.
+/// The settings that stay the same while a stream is filtered, for proofs.
 pub trait Known {
     // the stream's encoding
     ghost encoding: { Coding };
 
-    // what the account goes by
+    // the settings of the account
     ghost way: { Way };
 
     // the text of what passes of a stream that has ended

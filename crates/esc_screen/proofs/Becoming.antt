@@ -1,4 +1,4 @@
--- What is done one after another to a screen.
+-- Changes of a screen, one after another.
 use Rattle.std.proofs.Common.{ap, ◌∙◌}
 use Rattle.esc_screen.specs.Grids.{Grid, Size}
 use Rattle.esc_screen.specs.Screens.{Becomes, grid_of, size_of}

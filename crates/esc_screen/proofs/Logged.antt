@@ -213,7 +213,7 @@ fed_last s i d ds len last fits =
 
 -- ---- lines, one after another
 
--- what is scrolled off and what is left
+-- the rows that are scrolled off and the rows that are left
 abbrev history : Size → Grid → List Step → List (List Cell)
 history s g xs = off_from s g xs ++ (grid_from s g xs).rows
 
@@ -231,7 +231,7 @@ first_of : (bs : List (List ℕ)) (cs : List ℕ)
 first_of [] cs = (cs, [], refl)
 first_of (b ∷ bs) cs = (b, bs ++ cs ∷ [], refl)
 
--- what a line feed after these rows scrolls off, and what comes of all after it
+-- the rows that a line feed after these rows scrolls off, and those that scroll off after it
 abbrev fed_on : Size → ℕ → List Step → List (List Cell) → List (List Cell)
 fed_on s i ys rs = take (gone_fed (at_row s rs i)) rs
     ++ history s (grid_by s (at_row s rs i) (step.Edit change.LineFeed)) ys

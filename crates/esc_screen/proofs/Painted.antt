@@ -1,4 +1,4 @@
--- What is painted is what is shown.
+-- A painted screen shows the rows that were painted.
 use Rattle.std.proofs.Common.{ℕ, suc, zero, ◌≡◌, ◌+◌, ◌-◌, ◌<◌, ◌≤◌, min, nat_lt, Bool, true, false, List, [], ◌∷◌, ◌++◌, length, map, set, replicate, get_or, if◌then◌else◌, refl, ap, subst, sym, ◌∙◌, append_assoc, arith}
 use Rattle.std.proofs.lemmas.List.{get_or_at, get_or-append-add, length_push, set_at}
 use Rattle.esc_screen.specs.Cells.{blank, blank_row, cut_row, is_rest, put, put_all}
@@ -51,7 +51,7 @@ put_blank n (suc j) (c ∷ cs) p e h =
     ∙ append_assoc p (plain_cell c ∷ []) (map plain_cell cs ++ replicate (j - length cs) b)
     ∙ ap (λ z. p ++ (plain_cell c ∷ (map plain_cell cs ++ replicate z b))) left
 
--- what paints: characters look as at first, and are shown as they are
+-- a screen that paints: characters look as at first, and are shown as they are
 record IsPlain (g : Grid) : Type 0 where
   pub look : g.cursor.look ≡ 0
   pub direct : is_direct g ≡ true

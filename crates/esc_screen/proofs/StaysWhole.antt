@@ -44,7 +44,7 @@ rows_drop zero xs h = h
 rows_drop (suc n) [] h = omega arith
 rows_drop (suc n) (x ∷ xs) h = rows_drop n xs h.1
 
--- of which all are one cell that is no half
+-- rows of one cell that is no half are whole
 rows_filled : (x : Cell) (xs : List (List Cell)) → is_rest x ≡ false → is_wide x ≡ false
     → AreWhole (map (filled_cells x) xs)
 rows_filled x [] r v = omega arith
@@ -256,7 +256,7 @@ whole_mark s c g o h = whole_if (has_before g) _ _
     (whole_in_row s g (marked_cells (column_before g) c) o
     (λ ys e w. whole_marked (column_before g) c ys w) h) h
 
--- what keeps both
+-- a sound grid with whole rows
 record IsGood (s : Size) (g : Grid) : Type 0 where
   pub sound : IsSound s g
   pub whole : HasWholeRows g

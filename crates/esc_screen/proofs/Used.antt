@@ -20,7 +20,7 @@ unused_blank n zero i at = refl
 unused_blank n (suc k) zero at = refl
 unused_blank n (suc k) (suc i) at = unused_blank zero k i (omega arith)
 
--- what a row has after a call on all of its cells
+-- the row after a call on all of its cells
 pub written_by : (f : List Cell → List Cell) (k : ℕ) (new old xs : List Cell) → length new ≡ k
     → new ≡ f old → old ≡ xs → take k (new ++ drop (length new) xs) ≡ f xs
 written_by f k new old xs len is same =
@@ -106,7 +106,7 @@ unused_erased_first n (suc k) (x ∷ xs) h (suc i) at =
     unused_erased_first (n - 1) k xs (λ j less. h (suc j) (omega (arith, less))) i
     (omega (arith, at))
 
--- of those that are as at first more are
+-- cells that are as at first are erased cells
 all_blank : (k : ℕ) (xs : List Cell) → IsUnusedFrom 0 xs → xs ≡ erased_first k xs
 all_blank zero xs h = refl
 all_blank (suc k) [] h = refl
@@ -157,7 +157,7 @@ unused_erased n m k xs h =
     unused_append n m ys _ h
     (unused_erased_first (n - m) (k - m) (drop m ys) (unused_drop n m ys h))
 
--- what is erased of cells that are as at first is as it was
+-- an erasure leaves cells that are as at first as they are
 pub erased_is : (n m k : ℕ) (xs : List Cell) → IsUnusedFrom n xs
     → erased_cells 0 m (min k n) xs ≡ erased_cells 0 m k xs
 erased_is n m k xs h =

@@ -127,7 +127,7 @@ mark_at n c xs = set xs n (marked_cell c (get_or xs n (blank 0)))
 abbrev pub marked_cells : ℕ → ℕ → List Cell → List Cell
 marked_cells n c xs = mark_at (start_of n xs) c xs
 
--- what stands there
+-- the content of a column
 abbrev pub content_at : ℕ → List Cell → Content
 content_at n xs = (get_or xs (start_of n xs) (blank 0)).content
 

@@ -1,4 +1,4 @@
--- What changes cells, other than printing.
+-- The changes of cells, other than printing.
 use Rattle.std.specs.Prelude.{ℕ, ◌+◌, ◌==◌, nat_lt, Bool, true, false, ◌||◌, if◌then◌else◌, map}
 use Rattle.esc_screen.specs.Cells.{deleted_cells, drawn_cell, erased_cells, filled_cells, inserted_cells, shifted_cells}
 use Rattle.esc_screen.specs.Grids.{Grid, Size, in_row, in_rows, line_fed, line_fed_back, grid_at, next_line, rows_down, rows_erased, rows_up, settled_grid, with_margins, with_rows}

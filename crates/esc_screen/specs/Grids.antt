@@ -7,8 +7,8 @@ use Rattle.esc_screen.specs.declared.cell.Cell.{Cell}
 use Rattle.esc_screen.specs.declared.cursor.Cursor.{Cursor}
 use Rattle.esc_screen.specs.declared.modes.Modes.{Modes}
 
--- what no step changes: how many rows there are, how many columns, and whether a line feed returns
--- to the first column, whatever the modes are
+-- the properties that no step changes: the number of rows, that of columns, and whether a line feed
+-- returns to the first column, whatever the modes are
 pub record Size : Type 0 where
   pub rows : ℕ
   pub columns : ℕ

@@ -13,7 +13,7 @@ moved_up n f xs = drop n xs ++ f (take n xs)
 abbrev pub moved_down : {X : Type 0} → ℕ → (List X → List X) → List X → List X
 moved_down n f xs = f (drop (length xs - n) xs) ++ take (length xs - n) xs
 
--- what is done so many times
+-- a function applied so many times
 abbrev pub times : {X : Type 0} → ℕ → (X → X) → X → X
 times zero f x = x
 times (suc n) f x = f (times n f x)

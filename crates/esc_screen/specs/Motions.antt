@@ -1,4 +1,4 @@
--- Where the cursor moves to.
+-- The places that the cursor moves to.
 use Rattle.std.specs.Prelude.{ℕ, ◌+◌, ◌-◌, nat_lt, min, if◌then◌else◌}
 use Rattle.esc_screen.specs.Lists.{times}
 use Rattle.esc_screen.specs.Cursors.{stop_after, stop_before}

@@ -26,7 +26,7 @@ abbrev pub AllFit : Size → List (List ℕ) → Type 0
 AllFit s [] = 0 ≤ 0
 AllFit s (cs ∷ css) = (length cs ≤ s.columns) × AllFit s css
 
--- what is painted is what is shown
+-- a painted screen shows the rows that were painted
 abbrev pub PaintsPlain : Type 0
 PaintsPlain = (s : Size) (css : List (List ℕ)) → length css ≡ s.rows → AllFit s css
     → (grid_from s (first_grid s) (paint_from 0 css)).rows ≡ map (row_of s) css

@@ -73,7 +73,7 @@ column_before g = if g.cursor.pending then g.cursor.column else g.cursor.column 
 abbrev pub mark_printed : ℕ → Grid → Grid
 mark_printed c g = if has_before g then in_row (marked_cells (column_before g) c) g else g
 
--- what stands there
+-- the content before the cursor
 abbrev pub before : Grid → Content
 before g = if has_before g then content_at (column_before g) (row_of_cursor g) else content.Blank
 

@@ -1,4 +1,4 @@
--- What a screen shows.
+-- The grid that a screen shows.
 use Rattle.std.specs.Prelude.{◌≡◌}
 use Rattle.esc_screen.specs.Grids.{Grid, Size}
 use Rattle.esc_screen.specs.Steps.{grid_by}

@@ -74,7 +74,7 @@ joined_by s g (step.Print c) = joined_narrow g
 joined_by s g (step.PrintWide c) = joined_wide s g
 joined_by s g _ = g
 
--- what REP prints, by what stands before the cursor
+-- the step of REP, by the content before the cursor
 abbrev pub printing : Content → Step
 printing (content.Narrow c m) = step.Print c
 printing (content.Wide c m) = step.PrintWide c
@@ -102,15 +102,15 @@ off_from s g (x ∷ xs) = off_by s g x ++ off_from s (grid_by s g x) xs
 
 -- ---- laws
 
--- Where rows move up, those that go off and those that are left are, in order, those that were
--- there: nothing is lost, and blank ones come after the last that moved.
+-- As rows move up, those that go off and those that are left are, in order, those that were there:
+-- nothing is lost, and blank ones come after the last that moved.
 abbrev pub LosesNothing : Type 0
 LosesNothing = (n : ℕ) (g : Grid) → is_open g ≡ true
     → take (gone_up n g) g.rows ++ (rows_up n g.top g.bottom g).rows
     ≡ take g.bottom g.rows
     ++ (map (cleared_cells g.cursor.erased) (take (gone_up n g) g.rows) ++ drop g.bottom g.rows)
 
--- what steps in two chunks scroll off is what the first and then the second do
+-- steps in two chunks scroll off the rows of the first chunk, and then those of the second
 abbrev pub GoesOffInChunks : Type 0
 GoesOffInChunks = (s : Size) (g : Grid) (xs ys : List Step)
     → off_from s g (xs ++ ys) ≡ off_from s g xs ++ off_from s (grid_from s g xs) ys

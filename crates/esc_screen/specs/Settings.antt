@@ -1,4 +1,4 @@
--- What changes the state.
+-- The changes of the state.
 use Rattle.std.specs.Prelude.{ℕ, ◌+◌, nat_lt, min, Bool, true, false, if◌then◌else◌, length, map, replicate, set}
 use Rattle.esc_screen.specs.Cells.{cleared_cells}
 use Rattle.esc_screen.specs.Cursors.{eighths, first_modes, home, softly_reset, softly_reset_modes, with_mode}

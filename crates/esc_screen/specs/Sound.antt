@@ -1,4 +1,4 @@
--- What holds of every grid that a screen has.
+-- The invariants of every grid of a screen.
 use Rattle.std.specs.Prelude.{ℕ, ◌+◌, ◌≡◌, ◌<◌, ◌≤◌, List, [], ◌∷◌, ◌++◌, length}
 use Rattle.esc_screen.specs.Grids.{Grid, Size, first_grid}
 use Rattle.esc_screen.specs.Steps.{grid_from}

@@ -1,4 +1,4 @@
--- What each step does to the grid of a screen.
+-- The change of a screen's grid by each step.
 use Rattle.std.specs.Prelude.{List, [], ◌∷◌}
 use Rattle.esc_screen.specs.Grids.{Grid, Size}
 use Rattle.esc_screen.specs.Printing.{mark_printed, narrow_printed, grid_with_repeats, wide_printed}

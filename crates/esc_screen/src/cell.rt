@@ -8,7 +8,7 @@ use crate::marks::Marks;
 /// A cell: what stands in it, and how it looks.
 #[derive(Clone, Copy)]
 pub struct Cell {
-    /// What stands in it.
+    /// Its content.
     pub content: Content,
     /// How it looks: a number that the caller chose.
     pub look: u16,

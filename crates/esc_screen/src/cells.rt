@@ -152,7 +152,7 @@ pub(crate) fn mark(cells: &mut [Cell], at: usize, mark: char)
     mark_cell(cells, start, mark);
 }
 
-/// What stands there: a character, also where the column is its second.
+/// Returns the content of this column: a character, also if the column is its second.
 pub(crate) fn content_at(cells: &[Cell], at: usize) -> Content
     ensures { result ≡ content_at at cells.now }
 {

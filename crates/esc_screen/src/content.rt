@@ -1,10 +1,10 @@
-//! What stands in a cell.
+//! The content of a cell.
 ghost use Rattle.std.specs.Prelude.{◌≡◌};
 ghost use Rattle.esc_screen.specs.Cells.{is_rest_content, marked_content};
 
 use crate::marks::Marks;
 
-/// What stands in a cell.
+/// The content of a cell.
 #[derive(Clone, Copy)]
 pub enum Content {
     /// Nothing.

@@ -2,8 +2,8 @@
 ghost use Rattle.std.specs.Prelude.{◌≡◌};
 ghost use Rattle.esc_screen.specs.Cursors.{draws, home, softly_reset};
 
-/// Where the next character goes, how it looks, and of which character set it is: what DECSC saves
-/// and DECRC restores (VT510, "Save Cursor").
+/// The place, the look and the character set of the next character: DECSC saves them, and DECRC
+/// restores them (VT510, "Save Cursor").
 #[derive(Clone, Copy)]
 pub struct Cursor {
     /// The row, from 0 on.

@@ -25,7 +25,7 @@ fn character_of(table: &[char; 32], c: char) -> char
     }
 }
 
-/// What a character is in the set of line drawing.
+/// Returns the character in place of this one in the set of line drawing.
 pub(crate) fn line_drawing(c: char) -> char
     ensures { result ≡ line_drawing c }
 {

@@ -13,6 +13,6 @@ pub enum Mode {
     ReverseVideo,
     /// The cursor is seen: DECTCEM.
     ShowCursor,
-    /// What is shown waits until the mode is reset: private mode 2026.
+    /// The display waits until the mode is reset: private mode 2026.
     Synchronized,
 }

@@ -100,7 +100,7 @@ impl<A: Allocator> Row<A> {
         cells::mark(&mut self.cells, at, mark);
     }
 
-    /// What stands in a column.
+    /// Returns the content of a column.
     pub fn content_at(&self, at: usize) -> Content
         ensures { result ≡ content_at at self.now }
     {

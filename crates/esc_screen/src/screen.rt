@@ -154,7 +154,7 @@ impl<A: Allocator> Screen<A> {
         }
     }
 
-    /// Where the next character goes.
+    /// Returns the place of the next character.
     pub fn cursor(&self) -> Cursor
         ensures { result ≡ self.now.cursor }
     {

@@ -1,10 +1,10 @@
-//! What a value of a stream does to a screen.
+//! The steps of a screen: the effects of the values of a stream.
 
 use crate::change::Change;
 use crate::motion::Motion;
 use crate::setting::Setting;
 
-/// What a value of a stream does to a screen.
+/// The effect of a value of a stream on a screen.
 #[derive(Clone, Copy)]
 pub enum Step {
     /// A character of one column.

@@ -140,7 +140,7 @@ abbrev as_list : Option Step → List Step
 as_list None = []
 as_list (Some x) = x ∷ []
 
--- of one that is a step this is the only one, and it changes nothing that is known
+-- a function that is a step is this step alone, and changes nothing that is known
 pub one_is : (ls : Known) (k : Place) (f : Function) (x : Step) → one_step k f ≡ Some x
     → (function_steps ls k f ≡ x ∷ []) × (function_known ls k f ≡ ls)
 one_is ls k (cursor c) x h = (ap as_list h, refl)
@@ -157,7 +157,7 @@ one_is ls k (tabs c ns) x h = absurd (none-some x h)
 one_is ls k (renditions rs) x h = absurd (none-some x h)
 one_is ls k (other d) x h = absurd (none-some x h)
 
--- what begins a link or ends one scrolls nothing off
+-- the begin or the end of a link scrolls nothing off
 pub lead_rows : {R : Type 0} (takes : R → Row → R → Type 0) (s : Size) (g : Grid) (c : Place)
     (k : Known) (o : Option (Option Target)) (r : R)
     → FoldsTo takes r (with_known k (off_from s g (lead_steps c k o))) r
@@ -187,7 +187,7 @@ off_push s g (y ∷ ys) x =
     ∙ sym (append_assoc off (off_each s h ys)
     (take (gone_by s (grid_from s h ys) x) (joined_by s (grid_from s h ys) x).rows))
 
--- what one step more scrolls off
+-- the rows that one step more scrolls off
 pub part_more : (s : Size) (g : Grid) (x : Step) (n : ℕ) (ls : Known)
     → let h = grid_from s g (replicate n x) in
     with_known ls (off_each s g (replicate n x))

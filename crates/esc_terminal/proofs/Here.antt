@@ -83,7 +83,7 @@ one_kept takes c p j shown ready h = (
       (sym (none_off (size_of p.state.screen) c (grid_of p.state.screen) shown ready)) refl,
 )
 
--- what a terminal that hands out rows does with them
+-- a terminal that hands out rows takes characters as others do
 pub here_kept : {R A : Type 0} (takes : R → Row → R → Type 0) (cs : List ℕ) (p : Keeping R A)
     (q : State A) → HasColumns cs p.state → FoldsTo Takes p.state (map action.Print cs) q
     → FoldsTo (KeepsAction takes) p (map action.Print cs) (record p { state = q })

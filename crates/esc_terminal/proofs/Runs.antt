@@ -111,7 +111,7 @@ all_columns (b ∷ x) t h =
 abbrev pub IsSequence : {A : Type 0} → Action A → CsiValue → Type 0
 IsSequence a c = value_of a ≡ csi c
 
--- what a sequence that is one value does is done
+-- a sequence that is one value has the effect of the value
 pub sequence_taken : {A : Type 0} (p q : State A) (es : List CsiParam) (truncated : Bool) (f : ℕ)
     → truncated ≡ false → csi_of es truncated f ≡ unspecified es truncated f ∷ []
     → TakesAll p (of_params es f) q

@@ -61,7 +61,7 @@ stepped_none takes p x = record {
 abbrev with_screen : {R A : Type 0} → Keeping R A → Screen A → Keeping R A
 with_screen p u = record p { state = record (p.state) { screen = u } }
 
--- what is handed out of it
+-- the rows that are handed out of it
 joined_rows : {R A : Type 0} (takes : R → Row → R → Type 0) (j k : Keeping R A) (x : Step)
     (u : Screen A) (s : Size) (h : Grid) (ls : Known) → size_of u ≡ s
     → grid_of u ≡ joined_by s h x → known_in j.state ≡ ls

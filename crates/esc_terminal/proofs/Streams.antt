@@ -26,13 +26,13 @@ shown_more : {A : Type 0} (z : Size) (t : Shown) (us vs : List (Value A))
 shown_more z t [] vs = refl
 shown_more z t (u ∷ us) vs = shown_more z (shown_by z t u) us vs
 
--- what values do, one after another
+-- the effect of values, one after another
 pub record Did {A : Type 0} (p : State A) (vs : List (Value A)) (q : State A) : Type 0 where
   pub shown : shown_in q ≡ shown_after (size_of p.screen) (shown_in p) vs
   pub size : size_of q.screen ≡ size_of p.screen
   pub requests : requests_in q ≡ requests_in p ++ asked_by vs
 
--- what one does
+-- the effect of one value
 pub one_shown : {A : Type 0} (p : State A) (v : Value A) (q : State A) → TakesValue p v q
     → shown_in q ≡ shown_by (size_of p.screen) (shown_in p) v
 one_shown p v q k =

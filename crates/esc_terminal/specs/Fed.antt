@@ -19,7 +19,7 @@ use Rattle.esc_terminal.specs.declared.state.State.{State}
 use Rattle.esc_terminal.specs.declared.styles.Styles.{Styles}
 use Rattle.esc_terminal.specs.declared.terminal.Terminal.{Terminal}
 
--- what is known of looks and links, and what it was asked for since it was cleared
+-- the looks and links that are known, and the requests since they were cleared
 abbrev pub known_in : {A : Type 0} → State A → Known
 known_in p = known_of p.styles
 
@@ -90,7 +90,7 @@ for_log columns rows = record (screen_size columns rows) { returns = true }
 abbrev pub IsBroken : {A : Type 0} → Terminal A → Type 0
 IsBroken t = t.state ≡ None
 
--- what the last call asked for
+-- the requests of the last call
 abbrev pub asked_in : {A : Type 0} → Option (State A) → List Request
 asked_in None = []
 asked_in (Some p) = requests_in p

@@ -16,7 +16,7 @@ abbrev pub IsAlwaysWhole : Type 0 → Type 0
 IsAlwaysWhole A = (z : Size) (s : List ℕ) → 0 < z.rows → 0 < z.columns
     → HasWholeRows (shown_of A z s).grid
 
--- what comes after a stream goes on from what is shown of it
+-- the bytes after a stream go on from the screen that is shown of it
 abbrev pub GoesOn : Type 0 → Type 0
 GoesOn A = (z : Size) (s b : List ℕ) → shown_of A z (s ++ b)
     ≡ shown_after z (shown_of A z s) (yield_within {A = A} (Some 0x1000) s b)

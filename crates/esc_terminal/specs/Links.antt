@@ -100,8 +100,8 @@ with_linked n (Some m) ps = let p = linked_of n m in if nat_lt (linked_place p p
     then if linked_place p ps == length ps then ps ++ p ∷ [] else ps
     else ps
 
--- The number of it: one above those of looks. Where there is no room for it, and where there is no
--- link, that of the look.
+-- The number of it: one above those of looks. If there is no room for it, and if there is no link,
+-- it is that of the look.
 abbrev pub linked_number : ℕ → Option ℕ → List Linked → ℕ
 linked_number n None ps = n
 linked_number n (Some m) ps = let p = linked_of n m in if nat_lt (linked_place p ps) most_linked

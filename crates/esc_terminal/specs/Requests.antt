@@ -55,6 +55,6 @@ abbrev pub request_list : Option Request → List Request
 request_list None = []
 request_list (Some r) = r ∷ []
 
--- what a value asks for
+-- the requests of a value
 abbrev pub requests_of : {A : Type 0} → Value A → List Request
 requests_of v = request_list (value_request v)

@@ -16,7 +16,7 @@ Row = List Cell × Known
 abbrev pub with_known : Known → List (List Cell) → List Row
 with_known ks rs = map (λ r. (r, ks)) rs
 
--- what a value scrolls off
+-- the rows that a value scrolls off
 abbrev pub off_by_value : {A : Type 0} → Size → Shown → Value A → List Row
 off_by_value z t v = with_known t.known (off_from z t.grid (steps_of t.known t.grid.cursor v))
 
@@ -25,11 +25,11 @@ abbrev pub off_after : {A : Type 0} → Size → Shown → List (Value A) → Li
 off_after z t [] = []
 off_after z t (v ∷ vs) = off_by_value z t v ++ off_after z (shown_by z t v) vs
 
--- what a stream scrolls off a terminal of this size
+-- the rows that a stream scrolls off a terminal of this size
 abbrev pub off_of : Type 0 → Size → List ℕ → List Row
 off_of A z s = off_after z (first_shown z) (values_of A s)
 
--- what comes after a stream scrolls off more
+-- the bytes after a stream scroll off more rows
 abbrev pub GoesOffOn : Type 0 → Type 0
 GoesOffOn A = (z : Size) (s b : List ℕ) → off_of A z (s ++ b)
     ≡ off_of A z s ++ off_after z (shown_of A z s) (yield_within {A = A} (Some 0x1000) s b)

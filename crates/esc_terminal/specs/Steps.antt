@@ -153,8 +153,8 @@ line_step line.EraseToEndOfLine = Edited change.EraseRight
 line_step line.EraseToStartOfLine = Edited change.EraseLeft
 line_step line.EraseLine = Edited change.EraseRow
 
--- what is inserted, deleted, erased and scrolled; nothing is protected, so DECSED and DECSEL erase
--- what ED and EL do
+-- the step of an insertion, deletion, erasure or scroll; nothing is protected, so DECSED and DECSEL
+-- erase as ED and EL do
 abbrev pub edit_step : Edit → Step
 edit_step (edits.InsertCharacter n) = Edited (change.InsertCells (count n))
 edit_step (edits.InsertLine n) = Edited (change.InsertRows (count n))

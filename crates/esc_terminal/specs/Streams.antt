@@ -54,7 +54,7 @@ abbrev pub shown_after : {A : Type 0} → Size → Shown → List (Value A) → 
 shown_after z t [] = t
 shown_after z t (v ∷ vs) = shown_after z (shown_by z t v) vs
 
--- what they ask for, in order
+-- the requests of values, in order
 abbrev pub asked_by : {A : Type 0} → List (Value A) → List Request
 asked_by [] = []
 asked_by (v ∷ vs) = requests_of v ++ asked_by vs
@@ -65,6 +65,6 @@ asked_by (v ∷ vs) = requests_of v ++ asked_by vs
 abbrev pub values_of : (A : Type 0) → List ℕ → List (Value A)
 values_of A s = meaning_within {A = A} (Some 0x1000) s
 
--- what a terminal of this size shows of a stream
+-- the screen that a terminal of this size shows of a stream
 abbrev pub shown_of : Type 0 → Size → List ℕ → Shown
 shown_of A z s = shown_after z (first_shown z) (values_of A s)

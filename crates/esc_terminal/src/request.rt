@@ -18,7 +18,7 @@ pub enum Request {
     NameAndVersion,
     /// A report of its status: DSR 5.
     Status,
-    /// Where the cursor is: DSR 6.
+    /// The place of the cursor: DSR 6.
     CursorPosition,
     /// The state of this mode of ECMA-48: DECRQM.
     ModeState(u32),

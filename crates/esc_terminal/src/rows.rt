@@ -14,10 +14,10 @@ use std::alloc::{AllocError, Allocator};
 
 /// Takes the rows that are scrolled off a screen, one after another: a text or a list of them.
 pub trait Rows {
-    // what it becomes with a row
+    // its value after a row
     ghost takes: { Self → List TheCell × Known → Self → Type 0 };
 
-    // what an error of it says
+    // the meaning of its error
     ghost fails: { Type 0 };
 
     /// Takes a row: its cells, which have the numbers of these looks and links.

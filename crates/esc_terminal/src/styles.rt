@@ -54,7 +54,7 @@ impl<A: Allocator> Styles<A> {
         self.looks.at(self.look_number(number))
     }
 
-    /// Where cells of a number lead, if they do.
+    /// Returns the target of the cells of a number, if they have one.
     #[tactic(auto, using(crate::proofs::LinksKept::target_here, crate::proofs::LinksKept::length_targets))]
     pub fn link_at(&self, number: u16) -> Option<&Hyperlink<A>>
         ensures { option_map (λ h. target h.now) result ≡ known_target number (known_of self.now) }

@@ -62,7 +62,7 @@ impl<A: Allocator + Copy> Terminal<A> {
         })
     }
 
-    /// Takes `bytes`. What they ask for is [`requests`](Self::requests) then.
+    /// Takes `bytes`. [`requests`](Self::requests) then returns their requests.
     ///
     /// The error is that a request for memory was refused, as a title, a request or a sequence may
     /// take some: there is no screen from then on, and every call returns it.

@@ -105,7 +105,7 @@ sequence_named o x items es last (Some n) h same reads =
     sequence_out o x es last n h
     (λ g gs each is. reads g gs each is ∙ ap (λ l. map csi (csi_of l false last)) (sym same))
 
--- what means something is called as its first value of which nothing is written
+-- a segment with a meaning is called as its first value that is not written
 pub title_meant : (written : Value Global → Bool) (f : Fate) (k : SegmentKind) (bytes : List ℕ)
     (vs : List (Value Global)) (n : Title) → is_meant f ≡ true
     → n ≡ title_or (kind_title k bytes) (first_out written vs)

@@ -1,4 +1,4 @@
--- What of streams is a failure, by a test of each fate.
+-- The failures of streams, by a test of each fate.
 use Rattle.std.proofs.Common.{ℕ, ◌≡◌, ◌<◌, ◌++◌, ◌∷◌, ◌∙◌, ◌↔◌, Bool, true, false, IsTrue, List, [], refl, sym, ap, arith}
 use Rattle.std.specs.Prelude.{◌||◌}
 use Rattle.std.specs.List.{list_any}

@@ -1,4 +1,4 @@
--- What openers are, as bytes are passed over.
+-- The names of openers, as bytes are passed over.
 use Rattle.std.proofs.Common.{ℕ, zero, suc, ◌≡◌, ◌<◌, ◌≤◌, true, false, List, [], ◌∷◌, length, get_or, drop, refl, codes, arith}
 use Rattle.escfilter.specs.Names.{is_passed_over, opened_by, opener}
 

@@ -1,4 +1,4 @@
--- What the options that name groups let pass.
+-- The values that pass by the options that name groups.
 use Rattle.std.specs.Prelude.{ℕ, ◌≡◌, ◌-◌, ◌/◌, ◌%◌, ◌^◌, ◌==◌, ◌&&◌, ◌||◌, nat_lt, Bool, true, if◌then◌else◌, List, Option, Some, None}
 use Rattle.esc_actions.specs.Values.{Value}
 use Rattle.esc_filter.specs.Groups.{IsWithSchemes, admits_groups, groups_of, has, place, with_group}
@@ -18,7 +18,7 @@ groups_by (Some g) p = g
 abbrev pub groups_in : Choice → Groups
 groups_in c = groups_by c.groups c.policy
 
--- what is of the chosen groups, or where none were named what the policy admits
+-- the values of the chosen groups, or, if none were named, those that the policy admits
 abbrev pub admits_by : {A : Type 0} → Option Groups → Policy → Value A → Bool
 admits_by None p v = admits p v
 admits_by (Some g) p v = admits_groups g v
@@ -49,7 +49,7 @@ policy_named words =
     else if has_word 0 words then Some policy.Text
     else None
 
--- what a policy admits
+-- the values that a policy admits
 abbrev pub begun : Policy → Choice
 begun p = record { policy = p; groups = None }
 

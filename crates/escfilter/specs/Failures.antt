@@ -1,4 +1,4 @@
--- What of streams is a failure.
+-- The streams that are a failure.
 use Rattle.std.specs.Prelude.{ℕ, ◌≡◌, ◌<◌, ◌==◌, ◌&&◌, ◌||◌, nat_lt, Bool, true, false, if◌then◌else◌, List}
 use Rattle.std.specs.List.{list_any}
 use Rattle.esc_account.specs.Accounts.{count_of}
@@ -33,7 +33,7 @@ has_failure k s =
     || (are_met k.replaced s.replaced || (are_met k.left_out s.left_out
     || (are_met k.swallowed s.swallowed || are_met k.overwritten s.overwritten))))
 
--- what is not in the output, in any spelling
+-- the fates of bytes that are not in the output, in any spelling
 abbrev pub less : Failing
 less = record {
   respelled = false;

@@ -1,4 +1,4 @@
--- What became of the bytes of a stream.
+-- The fates of the bytes of a stream.
 use Rattle.std.specs.Prelude.{◌≡◌}
 use Rattle.esc_account.specs.declared.sums.Sums.{Sums}
 

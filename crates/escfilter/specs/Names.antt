@@ -1,4 +1,4 @@
--- What things of a stream are called.
+-- The names of the parts of a stream.
 use Rattle.std.specs.Prelude.{ℕ, ◌==◌, ◌&&◌, ◌||◌, nat_lt, Bool, true, false, not, if◌then◌else◌, List, [], ◌∷◌, length, get_or, codes, Option, Some, None}
 use Rattle.std.specs.Char.{is_ascii_digit, is_ascii_graphic}
 use Rattle.control_functions.specs.Controls.{control_of}
@@ -91,7 +91,7 @@ abbrev pub opener : ℕ → List ℕ
 opener b = if b == 0x5b || b == 0x9b then codes "CSI"
     else if b == 0x50 || b == 0x90 then codes "DCS" else codes "ESC"
 
--- what a sequence is that is cut short
+-- the kind of a sequence that is cut short
 abbrev pub opened_by : List ℕ → List ℕ
 opened_by [] = codes "ESC"
 opened_by (b ∷ bs) = if is_passed_over b then opened_by bs else opener b
@@ -183,7 +183,7 @@ command_title (command.ITermProprietary p) = osc_title (codes "1337") (codes "co
 command_title (command.Unspecified ps) =
     key_title (codes "OSC") [] (codes "of another kind") (number_key ps)
 
--- what a value asks for
+-- the title of a value
 abbrev pub value_title : {A : Type 0} → Value A → Title
 value_title (print c) = character_title c
 value_title (string s) = deceiving_title

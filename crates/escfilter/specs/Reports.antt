@@ -1,4 +1,4 @@
--- What is told of a stream, by its account.
+-- The report on a stream, by its account.
 use Rattle.std.specs.Prelude.{ℕ, ◌≡◌, ◌++◌, Bool, true, false, List, [], ◌∷◌, Option, Some}
 use Rattle.std.specs.Global.{Global}
 use Rattle.std.specs.declared.io.traits.Read.{Ghosts as Reader}
@@ -25,7 +25,7 @@ use Rattle.escfilter.specs.declared.options.Form.TheVariants as forms
 use Rattle.escfilter.specs.declared.options.Options.{Options}
 use Rattle.escfilter.specs.declared.rows.Rows.{Rows}
 
--- what passes by the program's choices
+-- the values that pass by the program's choices
 abbrev pub choices : Admitter Choice Global
 choices = record { admits = admits_choice }
 
@@ -48,9 +48,9 @@ abbrev pub is_json : Option Form → Bool
 is_json (Some forms.Json) = true
 is_json _ = false
 
--- Of the stream s was told what its account says: it is a failure exactly where some byte had a
--- fate that is one, and so the gate was told; and where all bytes are in the output, in their
--- spelling or another, a report in lines of text says nothing: what it is written to is as it was.
+-- The report on the stream s is that of its account: it is a failure exactly if some byte had a
+-- fate that is one, and so the gate was told; and if all bytes are in the output, in their spelling
+-- or another, a report in lines of text says nothing: its output is as it was.
 pub record IsReported (o : Options) (old : Gate) (s : List ℕ) (fails : Bool) (new : Gate)
     (Same : Type 0) : Type 0 where
   pub account : Account

@@ -1,4 +1,4 @@
--- What the rows of a report have of what a stream lost, and what they are called.
+-- The rows of a report on the losses of a stream, and their names.
 use Rattle.std.specs.Prelude.{ℕ, ◌≡◌, ◌+◌, ◌≤◌, ◌==◌, ◌&&◌, nat_le, Bool, true, false, not, if◌then◌else◌, List, [], ◌∷◌, ◌++◌, map, is_some, Option, Some, None}
 use Rattle.std.specs.Global.{Global}
 use Rattle.std.specs.List.{All, filter, list_any}
@@ -98,7 +98,7 @@ pub record IsOf (e : Entry) (g : Shape) (gs : List Shape) : Type 0 where
   pub bytes : e.bytes ≡ bytes_of g
   pub finished : e.finished ≡ is_finished g (joined_bytes gs)
 
--- what an entry is called, whose segment has these values: a terminator as what it is
+-- the title of an entry, whose segment has these values: a terminator has that of its kind
 abbrev pub title_in : FilterOptions Choice → Entry → List (Value Global) → Title
 title_in o e vs = if e.is_end then kind_title e.kind e.bytes
     else title_by (writes o) e.fate e.kind e.bytes vs

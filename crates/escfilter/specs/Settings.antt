@@ -1,4 +1,4 @@
--- What the program's words ask for.
+-- The settings that the program's words ask for.
 use Rattle.std.specs.Prelude.{◌||◌, Bool, is_some}
 use Rattle.escfilter.specs.declared.options.Options.{Options}
 

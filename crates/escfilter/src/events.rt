@@ -1,4 +1,4 @@
-//! What did not pass of streams, one thing after another, in lines of JSON (RFC 8259).
+//! The losses of streams, one after another, in lines of JSON (RFC 8259).
 ghost use Rattle.std.specs.Prelude.{◌≡◌, OnErr};
 ghost use Rattle.std.specs.Global.{Global};
 ghost use Rattle.fallible_alloc.specs.Refusals.{Refused};
@@ -28,13 +28,13 @@ pub struct Events {
     aside: Aside,
     // the name of the stream
     stream: String,
-    // what was found last, where the terminator of a string may follow
+    // the last event, if the terminator of a string may follow
     found: Option<Event>,
     // the first of its bytes
     bytes: Vec<u8>,
 }
 
-// What did not pass.
+// A segment that did not pass.
 #[derive(Clone, Copy)]
 struct Event {
     fate: Fate,

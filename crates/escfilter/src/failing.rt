@@ -1,4 +1,4 @@
-//! What of streams is a failure.
+//! The failures of streams.
 ghost use Rattle.std.specs.Prelude.{◌≡◌, ◌≢◌, ◌↔◌, ◌++◌, ◌∷◌, IsTrue, List, [], if◌then◌else◌};
 ghost use Rattle.std.specs.List.{list_any};
 ghost use Rattle.esc_account.specs.declared.sums.Sums.{Sums as Counts};
@@ -8,7 +8,7 @@ ghost use Rattle.escfilter.specs.declared.failing.Failing.{Failing as Fates};
 use crate::named_groups::has_word;
 use esc_account::Sums;
 
-/// What `--fail` takes: names of fates. Their bits are in this order.
+/// The words of `--fail`: names of fates. Their bits are in this order.
 pub const FAILING: &[&str] = &[
     "respelled",
     "shown",

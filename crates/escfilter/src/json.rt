@@ -1,4 +1,4 @@
-//! What did not pass of a stream, as JSON (RFC 8259).
+//! The losses of a stream, as JSON (RFC 8259).
 
 use crate::name::{Key, Name};
 use crate::report::{bytes_of, words_of};

@@ -1,4 +1,4 @@
-//! What is left out of a stream, by name.
+//! The names of the parts of a stream that are left out.
 ghost use Rattle.std.specs.Prelude.{◌≡◌};
 ghost use Rattle.esc_actions.specs.Values.{device_value, value_of};
 ghost use Rattle.escfilter.specs.Names.{apc_key, bare, character_title, command_title, control_title, deceiving_title, escape_title, has_key, header_key, is_passed_over, key_title, kind_title, lone_title, number_in, number_key, opened_by, opener, plain_title, sequence_title, shown_key, title_of, unnamed_title, value_title};
@@ -14,7 +14,7 @@ use esc_values::scalar::read_usize;
 // How many digits a number has at most that tells commands apart.
 const DIGITS: usize = 18;
 
-/// What tells things apart that no table has.
+/// The bytes and numbers that tell nameless things apart.
 #[derive(Clone, Copy, PartialEq, Eq)]
 pub enum Key {
     /// Nothing.
@@ -37,7 +37,7 @@ pub struct Name {
     pub kind: &'static str,
     /// Its name in words, as `device status report`.
     pub words: &'static str,
-    /// What it has in place of its name and of these words, where no table has it.
+    /// Its key in place of its name and of these words, if no table has it.
     pub key: Key,
 }
 
@@ -151,7 +151,7 @@ fn shown_at(bytes: &[u8], at: usize) -> Key
     }
 }
 
-// What a sequence is that is cut short.
+// Returns the kind of a sequence that is cut short.
 fn opened_by(bytes: &[u8]) -> &'static str
     ensures { result.now ≡ opened_by bytes.now }
 {
@@ -172,7 +172,8 @@ fn is_passed_over(byte: u8) -> bool
     byte < 0x20 || byte == 0x7f || byte == 0xc2
 }
 
-// What this byte opens, after ESC, after C2 or by itself.
+// Returns the kind of the sequence or string that this byte opens, after ESC, after C2 or by
+// itself.
 fn opener(byte: u8) -> &'static str
     ensures { result.now ≡ opener byte }
 {
@@ -185,7 +186,7 @@ fn opener(byte: u8) -> &'static str
     }
 }
 
-// What has no name.
+// Returns the name of a thing without one.
 fn unnamed(kind: &'static str) -> Name
     ensures { title_of result ≡ unnamed_title kind.now }
 {

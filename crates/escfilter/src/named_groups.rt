@@ -58,10 +58,10 @@ macro_rules! rows {
     };
 }
 
-/// What `--allow` takes: policies, and groups.
+/// The words of `--allow`: policies, and groups.
 pub const ALLOWED: &[&str] = groups!(names_and_policies);
 
-/// What `--deny` takes: groups.
+/// The words of `--deny`: groups.
 pub const DENIED: &[&str] = groups!(names);
 
 // How many words of `ALLOWED` are policies.
@@ -71,7 +71,8 @@ const GROUPS: [Group; 15] = groups!(groups_alone);
 
 static ROWS: [(Group, &str, &str); 15] = groups!(rows);
 
-/// What passes: what a policy admits, or where groups were added to it or taken away, these.
+/// The values that pass: those that a policy admits, or, if groups were added to it or taken away,
+/// those of these groups.
 #[derive(Clone, Copy)]
 pub struct Choice<'a> {
     /// The policy.
@@ -81,7 +82,7 @@ pub struct Choice<'a> {
 }
 
 impl<'a> Choice<'a> {
-    /// What this policy admits.
+    /// Chooses the values that this policy admits.
     pub fn of(policy: Policy) -> Choice<'a>
         ensures { result ≡ begun policy }
     {
@@ -91,8 +92,8 @@ impl<'a> Choice<'a> {
         }
     }
 
-    /// What passes besides, by the bits of the words in `ALLOWED`. Where a policy is among them, it
-    /// is what it admits and the groups, and nothing of what was there.
+    /// Lets more pass, by the bits of the words in `ALLOWED`. If a policy is among them, the values
+    /// that it admits and the groups pass, and nothing of the choice before.
     pub fn and(self, words: u64) -> Choice<'a>
         ensures { IsChanged (words / 2 ^ 5) true (begun_by (policy_named words) self.entry) result }
     {
@@ -103,14 +104,14 @@ impl<'a> Choice<'a> {
         begun.with(words >> POLICIES, true)
     }
 
-    /// What passes but these groups, by the bits of the words in `DENIED`.
+    /// Takes away these groups, by the bits of the words in `DENIED`.
     pub fn without(self, words: u64) -> Choice<'a>
         ensures { IsChanged words false self.entry result }
     {
         self.with(words, false)
     }
 
-    /// What passes, but of links those alone that lead to addresses of these schemes.
+    /// Lets pass as before, but only links to addresses of these schemes.
     pub fn with_schemes(self, schemes: &'a str) -> Choice<'a>
         ensures { IsLinked schemes.now self.entry result }
     {
@@ -149,7 +150,7 @@ impl<'a> Choice<'a> {
         }
     }
 
-    // What passes with these groups, or without them.
+    // Adds these groups, or takes them away.
     fn with(self, words: u64, passes: bool) -> Choice<'a>
         ensures { IsChanged words passes self.entry result }
     {

@@ -1,4 +1,4 @@
-//! What did not pass of a stream, in lines of text.
+//! The losses of a stream, in lines of text.
 
 ghost use Rattle.std.specs.Prelude.{◌≡◌, ◌↔◌, false};
 ghost use Rattle.escfilter.specs.Fates.{IsComplete};
@@ -13,8 +13,9 @@ use esc_account::{Account, Fate, Place, Row, Sums};
 use std::io::Write;
 
 /// Writes lines on `faults` that name the stream: how many of its bytes had each fate; each kind of
-/// what did not pass by its name, with the place in the input where the first of it was; and what
-/// the end of the stream leaves open. Where all of it passed, or was respelled, it writes nothing.
+/// loss by its name, with the place in the input of the first of it; and the sequence or string
+/// that the end of the stream leaves open. If all of it passed, or was respelled, it writes
+/// nothing.
 pub fn tell_text<E: Write>(account: Account, rows: &Rows, name: &str, faults: &mut E)
     ensures silent { IsComplete account.sums → faults.new ≡ faults.old }
 {
@@ -38,7 +39,7 @@ pub fn has_omissions(sums: Sums) -> bool
     Failing::LESS.is_met(sums)
 }
 
-/// What became of bytes, in words.
+/// Returns the words for a fate.
 pub fn words_of(fate: Fate) -> &'static str {
     match fate {
         Fate::Passed => "passed",
@@ -82,7 +83,7 @@ fn tell_sums<E: Write>(sums: Sums, name: &str, faults: &mut E) {
     put("\n", faults);
 }
 
-// What had one fate under a name.
+// Tells a row: the segments of one fate under a name.
 fn tell_row<E: Write>(row: &Row<Name>, name: &str, faults: &mut E) {
     begin(name, faults);
     put(words_of(row.fate), faults);
@@ -121,7 +122,7 @@ fn tell_place<E: Write>(place: Place, faults: &mut E) {
     put_number(" at byte ", place.byte, faults);
 }
 
-// What the end of the stream leaves open.
+// Tells the string or sequence that the end of the stream leaves open.
 fn tell_open<E: Write>(open: Open, name: &str, faults: &mut E) {
     begin(name, faults);
     put("warning:", faults);

@@ -1,4 +1,4 @@
-//! What did not pass of a stream, by name.
+//! The losses of a stream, by name.
 ghost use Rattle.std.specs.Prelude.{◌≡◌, ◌≤◌, ◌++◌, ◌∷◌, IfOk, List, [], OnErr, OnOk, Some, ◌&&◌, false, is_some, map, nat_le, not, true};
 ghost use Rattle.std.specs.Global.{Global};
 ghost use Rattle.esc_account.specs.Brief.{brief};
@@ -28,7 +28,7 @@ use std::alloc::{AllocError, Global};
 // How many rows there are at most of things that keys tell apart.
 const KEYS: usize = 64;
 
-/// What the end of a stream leaves unfinished.
+/// The sequence or string that the end of a stream leaves unfinished.
 #[derive(Clone, Copy)]
 pub struct Open {
     pub name: Name,
@@ -38,9 +38,9 @@ pub struct Open {
     end: u64,
 }
 
-/// What did not pass of a stream: a row for each fate and name, in the order in which the first of
-/// each came; none where the options ask for no report. Each thing is told as it comes, where that
-/// is asked for.
+/// The losses of a stream: a row for each fate and name, in the order in which the first of each
+/// came; none if the options ask for no report. Each loss is told as it comes, if that is asked
+/// for.
 #[derive(Drop)]
 pub struct Rows<'a> {
     alloc: Global,
@@ -83,12 +83,13 @@ impl<'a> Rows<'a> {
         self.table.rows()
     }
 
-    /// Where what did not pass is told.
+    /// Returns the lines in which the losses are told.
     pub fn into_events(self) -> Option<Events> {
         self.events
     }
 
-    /// What the end of the stream, of which this is the account, leaves unfinished.
+    /// Returns the sequence or string that the end of the stream, of which this is the account,
+    /// leaves unfinished.
     pub fn open(&self, account: Account) -> Option<Open> {
         match self.open {
             Some(open) if open.end == bytes_of(account.sums) => Some(open),
@@ -147,8 +148,8 @@ impl<'a> Rows<'a> {
         }
     }
 
-    // What the segment, which has this name and place, would leave unfinished at the end of the
-    // stream: by lines a line feed ends it.
+    // Returns the sequence or string that the segment, which has this name and place, would leave
+    // unfinished at the end of the stream: by lines a line feed ends it.
     fn open_of(&self, segment: Segment<'_>, name: Name, first: Place) -> Option<Open> {
         let ends = self.options.filter.by_lines && segment.bytes.last() == Some(&b'\n');
         if segment.finished || ends {

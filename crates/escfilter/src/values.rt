@@ -10,7 +10,7 @@ const MOST_ROWS: usize = 4096;
 
 const MOST_COLUMNS: usize = 16_384;
 
-/// What is wrong with the values of which the table does not say what they may be.
+/// Returns the first wrong value of an option whose values the table does not name.
 pub fn wrong_value<'a>(options: &[Given<'a>]) -> Option<Wrong<'a>> {
     match (wrong_scheme(options), wrong_number(options)) {
         (Some(scheme), _) => Some(Wrong::Value("--links", "scheme", scheme, None)),

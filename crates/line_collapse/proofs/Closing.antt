@@ -1,4 +1,4 @@
--- What is written of the screen that a terminal has.
+-- The text that is written of the screen of a terminal.
 use Rattle.std.proofs.Common.{◌≡◌, ℕ, List, [], ◌∷◌, Option, None, Some, IsSomeAnd, refl, ap, subst, take, ◌∙◌}
 use Rattle.std.proofs.lemmas.Option.{none-some}
 use Rattle.esc_screen.specs.Grids.{Grid, Size}
@@ -21,7 +21,7 @@ use Rattle.line_collapse.specs.Streams.{rows_left}
 
 -- ---- rows of a screen
 
--- what is written of characters that deceive stays the same
+-- the choice for characters that deceive stays the same
 pieces_keep : (o : Out) (ps : List Piece) → (out_from o ps).characters ≡ o.characters
 pieces_keep o [] = refl
 pieces_keep o (p ∷ ps) = pieces_keep (out_by o p) ps

@@ -1,4 +1,4 @@
--- What rows were given of values.
+-- The values that rows were given.
 use Rattle.std.proofs.Common.{ℕ, ◌≡◌, List, [], ◌++◌, Option, Some, is_some, max, refl, ap, sym, subst, ◌∙◌, append_assoc}
 use Rattle.std.specs.List.{FoldsTo}
 use Rattle.text_tally.specs.declared.tally.Tally.{Tally}
@@ -20,7 +20,7 @@ use Rattle.line_collapse.specs.Taken.{IsCounted}
 use Rattle.line_collapse.specs.Windows.{Size, screen_of}
 use Rattle.line_collapse.proofs.Taken.{first_counted}
 
--- what comes after a stream scrolls off these rows
+-- the rows that scroll off for the bytes after a stream
 abbrev rows_of : (A : Type 0) → Size → List ℕ → List ℕ → List Row
 rows_of A z s b = off_after (screen_of z) (shown_of A (screen_of z) s)
     (yield_within {A = A} (Some 0x1000) s b)
@@ -131,7 +131,7 @@ pub final_after_nil : (A : Type 0) (z : Size) (m : List ℕ → List ℕ) → m 
 final_after_nil A z m e = ap (λ s. final_of z (values_of A s)) e
     ∙ ap (λ o. o.text) (nothing_final A z)
 
--- what is left of a stream that has ended is its final rows, and more
+-- the rest of a stream that has ended is its final rows, and more
 pub left_after_more : (A : Type 0) (z : Size) (m c : List ℕ → List ℕ)
     → ((s : List ℕ) → (x : List ℕ) × (c s ≡ m s ++ x)) → (s : List ℕ)
     → (t : List ℕ) × (left_after A z c s ≡ final_after A z m s ++ t)

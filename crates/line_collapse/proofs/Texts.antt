@@ -1,4 +1,4 @@
--- What is left of the lines of a stream is of characters, line feeds, renditions and links.
+-- The rest of the lines of a stream is of characters, line feeds, renditions and links.
 use Rattle.std.proofs.Common.{◌≡◌, Bool, true, false, ◌||◌, List, [], ◌∷◌, Option, Some, None, is_some, refl, ◌∙◌}
 use Rattle.std.specs.List.{All, list_any}
 use Rattle.std.proofs.lemmas.Bool.{true≢false}

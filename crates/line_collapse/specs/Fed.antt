@@ -1,4 +1,4 @@
--- What rows were given.
+-- The stream that rows were given.
 use Rattle.std.specs.Prelude.{ℕ, ◌≡◌, List, [], ◌++◌, IsSomeAnd, None, Option, Some}
 use Rattle.text_tally.specs.declared.tally.Tally.{Tally}
 use Rattle.esc_normal.specs.declared.feeding.StreamFilter.{Ghosts as Feeder}
@@ -65,8 +65,8 @@ abbrev pub TakesIn : {A : Type 0} → Size → List ℕ → List ℕ → LineCol
 TakesIn {A} z s b c = HasConsumed z (s ++ b) c
     × (final_of z (values_of A (s ++ b)) ≡ final_of z (values_of A s) ++ added_by c)
 
--- of a filter, which gives texts for streams that go on and for those that have ended: the final
--- rows of the first, and all rows of the second
+-- the rows of a filter, which gives texts for streams that go on and for those that have ended: the
+-- final rows of the first, and all rows of the second
 abbrev pub final_after : Type 0 → Size → (List ℕ → List ℕ) → List ℕ → List ℕ
 final_after A z m s = final_of z (values_of A (m s))
 

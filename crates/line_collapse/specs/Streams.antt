@@ -1,4 +1,4 @@
--- What is left of the lines of a stream.
+-- The rest of the lines of a stream.
 use Rattle.std.specs.Prelude.{ℕ, ◌+◌, max, Bool, true, false, not, ◌||◌, if◌then◌else◌, List, [], ◌∷◌, ◌++◌, is_some, take}
 use Rattle.std.specs.List.{list_all}
 use Rattle.esc_actions.specs.Values.{Value, csi, esc, osc}
@@ -38,17 +38,17 @@ cursor_rows g = if g.alternate then 0 else g.cursor.row + 1
 abbrev pub rows_left : Known → Grid → List (List Cell)
 rows_left k g = take (count_seen k (cursor_rows g) 0 (main_rows g)) (main_rows g)
 
--- of what is shown
+-- the rows that are left of a screen
 abbrev pub left_rows : Shown → List Row
 left_rows t = with_known t.known (rows_left t.known t.grid)
 
 -- ---- values, one after another
 
--- what is shown after values
+-- the screen after values
 abbrev pub shown_by_all : {A : Type 0} → Size → List (Value A) → Shown
 shown_by_all z vs = shown_after (screen_of z) (first_shown (screen_of z)) vs
 
--- what is written of the rows that values scroll off the screen
+-- the text that is written of the rows that values scroll off the screen
 abbrev pub final_out : {A : Type 0} → Size → List (Value A) → Out
 final_out z vs = out_by_rows (first_out z.characters)
     (off_after (screen_of z) (first_shown (screen_of z)) vs)
@@ -61,7 +61,7 @@ abbrev pub open_of : {A : Type 0} → Size → List (Value A) → List ℕ
 open_of z vs =
     (out_by_rows (emptied_out (final_out z vs)) (left_rows (shown_by_all z vs))).text
 
--- what is left of the lines
+-- the rest of the lines
 abbrev pub left_of : {A : Type 0} → Size → List (Value A) → List ℕ
 left_of z vs = final_of z vs ++ open_of z vs
 

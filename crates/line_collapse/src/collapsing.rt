@@ -17,8 +17,8 @@ pub struct Collapsing<F, A: Allocator = Global> {
 }
 
 impl<F: StreamFilter<A> + Drop, A: Allocator + Copy> Collapsing<F, A> {
-    /// What is left of the lines of this filter, which was fed nothing: the last `rows` rows, of
-    /// `columns` columns at most, may be written again.
+    /// Makes a filter of the lines that this filter leaves, which was fed nothing: the last `rows`
+    /// rows, of `columns` columns at most, may be written again.
     pub fn new(
         alloc: A,
         inner: F,
@@ -33,8 +33,8 @@ impl<F: StreamFilter<A> + Drop, A: Allocator + Copy> Collapsing<F, A> {
         Ok(Collapsing { inner, collapse })
     }
 
-    /// What this collapse leaves of the lines of this filter; both were fed nothing. Takes no
-    /// memory, so that no filter is lost where there is none for a collapse.
+    /// Joins this collapse to this filter; both were fed nothing. Takes no memory, so that no
+    /// filter is lost where there is none for a collapse.
     pub fn over(inner: F, collapse: LineCollapser<A>) -> Collapsing<F, A>
         ensures { (size : Size) (m c : List ℕ → List ℕ) → HasConsumed size [] collapse
             → F.gives inner m c [] → m [] ≡ [] → IsFed F.StreamFilter size m c [] result }

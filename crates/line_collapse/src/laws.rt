@@ -8,7 +8,7 @@ ghost use Rattle.line_collapse.specs.Windows.{Size};
 
 use std::alloc::Allocator;
 
-/// What is left of the lines of any stream, and the rows of it that are final, are characters from
+/// The rest of the lines of any stream, and the rows of it that are final, are characters from
 /// U+0020 to U+007E and from U+00A0 on, line feeds, renditions and links: text as
 /// [`Policy::Color`](esc_filter::Policy::Color) lets it through, whatever the stream is.
 pub fn leaves_color_text<A: Allocator>()
@@ -16,7 +16,7 @@ pub fn leaves_color_text<A: Allocator>()
     ensures all_rows { (z : Size) (s : List ℕ) → IsColorText (left_of z (values_of A s)) }
 {}
 
-/// Where nothing in the stream selects a rendition or a link, there are none either.
+/// A stream that selects no rendition and no link leaves none either.
 pub fn leaves_plain_text<A: Allocator>()
     ensures final_rows { (z : Size) (s : List ℕ) → list_any selects (values_of A s) ≡ false
         → IsPlainText (final_of z (values_of A s)) }

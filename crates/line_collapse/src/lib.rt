@@ -1,6 +1,6 @@
-//! What a terminal leaves of lines that are written again, as progress bars do by carriage returns,
-//! backspaces, erasures and movements of the cursor: the rows that are scrolled off its screen
-//! (crate `esc_terminal`), and at the end those that are left on it.
+//! Collapses lines that are written again, as progress bars do by carriage returns, backspaces,
+//! erasures and movements of the cursor, to the rows that a terminal leaves of them: those that are
+//! scrolled off its screen (crate `esc_terminal`), and at the end those that are left on it.
 //!
 //! [`LineCollapser`] takes text in pieces, as a filter wrote it, and gives the text of the rows
 //! that are final. [`Collapsing`] is a filter and a collapse after it, and [`collapse_from`] reads

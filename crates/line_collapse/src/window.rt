@@ -15,7 +15,7 @@ pub struct Window {
     pub rows: u16,
     /// After how many columns a line goes on in the next row: 0 is as 1.
     pub columns: u16,
-    /// What is written of characters that deceive.
+    /// The text in place of characters that deceive.
     pub characters: Unicode,
     /// Whether the text is counted that is printed and stands in no row at last.
     pub counts: bool,

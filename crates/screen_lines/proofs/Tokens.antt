@@ -1,4 +1,4 @@
--- What is written of rows is of characters, line feeds, renditions and links.
+-- The text of rows is of characters, line feeds, renditions and links.
 use Rattle.std.proofs.Common.{ℕ, ◌≡◌, ◌-◌, ◌==◌, nat_le, Bool, true, false, not, if◌then◌else◌, List, [], ◌∷◌, ◌++◌, codes, Option, Some, None, inl, inr, refl, sym, ap, ◌∙◌, subst, arith, lit<, append_assoc}
 use Rattle.std.specs.List.{All, list_all}
 use Rattle.std.proofs.lemmas.Bool.{and_parts, true≢false}
@@ -80,7 +80,7 @@ low_char c h = grind (arith, nat_tests)
 shown_char : (c : ℕ) → is_address_char c ≡ true → is_shown c ≡ true
 shown_char c h = grind (arith, nat_tests)
 
--- what each character of an address is, all of them are
+-- a property of each character of an address holds of all of them
 each : (p : ℕ → Bool) → ((c : ℕ) → is_address_char c ≡ true → p c ≡ true) → (t : List ℕ)
     → list_all is_address_char t ≡ true → list_all p t ≡ true
 each p f [] h = refl

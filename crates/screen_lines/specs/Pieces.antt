@@ -1,4 +1,4 @@
--- What is written of rows: pieces, one after another, and their text.
+-- The text of rows: pieces, one after another, and their text.
 use Rattle.std.specs.Prelude.{ℕ, ◌+◌, ◌-◌, ◌==◌, nat_le, nat_lt, Bool, true, false, not, ◌&&◌, if◌then◌else◌, List, [], ◌∷◌, ◌++◌, codes, length, Option, None, Some}
 use Rattle.std.specs.Char.{encode_utf8}
 use Rattle.std.specs.List.{list_all}
@@ -29,7 +29,7 @@ pub data Piece : Type 0 where
 abbrev pub is_text : ℕ → Bool
 is_text c = is_clear c && not (c == 0x7f)
 
--- what is written of one that deceives, after this character, or none
+-- the text in place of a character that deceives, after this character, or none
 abbrev pub instead : Unicode → Option ℕ → ℕ → Spelling
 instead Keep b c = AsItIs
 instead Join b c = if may_follow b c then AsItIs else ByNumber
@@ -75,7 +75,8 @@ abbrev pub id_text : Option (List ℕ) → List ℕ
 id_text None = []
 id_text (Some i) = codes "id=" ++ i
 
--- what begins a link with an id, or without one, and an address; with neither, it ends one (OSC 8)
+-- the begin of a link with an id, or without one, and an address; with neither, the end of one (OSC
+-- 8)
 abbrev pub lead_text : Option (List ℕ) → List ℕ → List ℕ
 lead_text i a = 0x1b ∷ codes "]8;" ++ (id_text i ++ (0x3b ∷ a ++ 0x1b ∷ 0x5c ∷ []))
 
@@ -144,8 +145,8 @@ piece_ink u i (Lead t) = target_ink i t
 abbrev pub first_ink : Ink
 first_ink = record { last = None; leads = false; room = first_room }
 
--- What is written: the text, what it leaves for what comes, whether a line feed comes before the
--- next row, and what is written of characters that deceive.
+-- The output: the text, the state that it leaves to the next row, whether a line feed comes before
+-- the next row, and the text in place of characters that deceive.
 pub record Out : Type 0 where
   pub text : List ℕ
   pub ink : Ink

@@ -37,8 +37,7 @@ mark_pieces (Some c) = Character c ∷ []
 abbrev pub marked_pieces : ℕ → Marks → List Piece
 marked_pieces c m = Character c ∷ (mark_pieces m.first ++ mark_pieces m.second)
 
--- what stands in a cell: a space where it is blank, and nothing for the second column of a
--- character
+-- the pieces of a cell: a space if it is blank, and nothing for the second column of a character
 abbrev pub content_pieces : Content → List Piece
 content_pieces content.Blank = Character 0x20 ∷ []
 content_pieces content.Rest = []
@@ -88,7 +87,7 @@ blanks_held h n = if n == 0 then h else None
 
 -- ---- rows
 
--- what a cell adds: those of which nothing is seen come before the next one of which something is
+-- the pieces that a cell adds: invisible ones come before the next one that is visible
 abbrev pub seen_pieces : Known → Going → Cell → List Piece
 seen_pieces k w x = blanks_pieces k w.held w.blanks
     ++ (change_pieces k (blanks_held w.held w.blanks) x.look ++ content_pieces x.content)

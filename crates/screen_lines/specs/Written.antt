@@ -1,4 +1,4 @@
--- What lines have written.
+-- The text that lines have written.
 use Rattle.std.specs.Prelude.{List, ℕ, ◌≡◌, string_bytes}
 use Rattle.esc_terminal.specs.Scrolled.{Row}
 use Rattle.screen_lines.specs.Pieces.{Out}

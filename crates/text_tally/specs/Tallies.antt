@@ -1,4 +1,4 @@
--- What a tally counted.
+-- The numbers that a tally has counted.
 use Rattle.std.specs.Prelude.{ℕ, ◌≡◌, List, Some}
 use Rattle.esc_actions.specs.Values.{value_of}
 use Rattle.esc_actions.specs.declared.action.Action.{Action}

@@ -113,7 +113,7 @@ impl<A: Allocator> Screen<A> {
         self.pass(2);
     }
 
-    // What is shown of a character.
+    // Returns the character that is shown for this one.
     fn shown(&self, c: char) -> char
         ensures { result ≡ shown self.now.cursor c }
     {
@@ -195,7 +195,7 @@ impl<A: Allocator> Screen<A> {
         }
     }
 
-    // What stands before the cursor.
+    // Returns the content before the cursor.
     pub(crate) fn before(&self) -> Content
         ensures { result ≡ before (grid_of self.now) }
     {

@@ -5,7 +5,7 @@ use Rattle.screen_lines.specs.Rows.{cells_pieces, first_going}
 use Rattle.screen_lines.specs.Written.{out_of}
 use Rattle.screen_lines.proofs.lines.Lines.push_written.Given as goal
 
--- what is left is added
+-- the cells that are left are added
 abbrev pub invariant-loop-at : goal.invariant-loop-at
 invariant-loop-at g l = (l.going.blanks ≤ l.at)
     × (out_from (out_of l.self) (cells_pieces (known_of l.styles) l.going (drop l.at l.cells))
