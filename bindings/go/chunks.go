@@ -14,7 +14,7 @@ const room = 1 << 16
 type inChunks interface {
 	feed(p []byte) error
 	finish() error
-	text(to func([]byte) error) error
+	output(to func([]byte) error) error
 	end()
 }
 
@@ -47,10 +47,10 @@ func (f *filter) finish() error {
 	return errorOf(C.escape_stream_filter_finish(&f.raw))
 }
 
-// text hands on what the last call added, a room at a time.
-func (f *filter) text(to func([]byte) error) error {
+// output hands on what the last call added, a room at a time.
+func (f *filter) output(to func([]byte) error) error {
 	for from := C.size_t(0); ; {
-		count := C.escape_stream_filter_text(&f.raw, from, first(f.room), C.size_t(len(f.room)))
+		count := C.escape_stream_filter_output(&f.raw, from, first(f.room), C.size_t(len(f.room)))
 		if count == 0 {
 			return nil
 		}

@@ -39,13 +39,13 @@ func ToHTML(stream []byte, options HTMLOptions) ([]byte, error) {
 		if err := h.feed(stream[:n]); err != nil {
 			return nil, err
 		}
-		_ = h.text(gather)
+		_ = h.output(gather)
 		stream = stream[n:]
 	}
 	if err := errorOf(C.escape_stream_html_finish(&h.raw)); err != nil {
 		return nil, err
 	}
-	_ = h.text(gather)
+	_ = h.output(gather)
 	return out, nil
 }
 
@@ -73,7 +73,7 @@ func (w *HTMLWriter) Write(p []byte) (int, error) {
 	if w.err = w.h.feed(p); w.err != nil {
 		return 0, w.err
 	}
-	if w.err = w.h.text(w.pass); w.err != nil {
+	if w.err = w.h.output(w.pass); w.err != nil {
 		return 0, w.err
 	}
 	return len(p), nil
@@ -89,7 +89,7 @@ func (w *HTMLWriter) Close() error {
 		err = errorOf(C.escape_stream_html_finish(&w.h.raw))
 	}
 	if err == nil {
-		err = w.h.text(w.pass)
+		err = w.h.output(w.pass)
 	}
 	w.h.end()
 	w.err = ErrClosed
@@ -132,9 +132,9 @@ func (h *page) feed(p []byte) error {
 	return errorOf(C.escape_stream_html_feed(&h.raw, first(p), C.size_t(len(p))))
 }
 
-func (h *page) text(to func([]byte) error) error {
+func (h *page) output(to func([]byte) error) error {
 	for from := C.size_t(0); ; {
-		count := C.escape_stream_html_text(&h.raw, from, first(h.room), C.size_t(len(h.room)))
+		count := C.escape_stream_html_output(&h.raw, from, first(h.room), C.size_t(len(h.room)))
 		if count == 0 {
 			return nil
 		}

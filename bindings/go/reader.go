@@ -56,14 +56,14 @@ func (r *Reader) fill() {
 		if refused := r.f.feed(r.chunk[:n]); refused != nil {
 			err = refused
 		} else {
-			_ = r.f.text(r.keep)
+			_ = r.f.output(r.keep)
 		}
 	}
 	if err == io.EOF {
 		if refused := r.f.finish(); refused != nil {
 			err = refused
 		} else {
-			_ = r.f.text(r.keep)
+			_ = r.f.output(r.keep)
 		}
 	}
 	if err != nil {

@@ -47,13 +47,13 @@ func Sanitize(log []byte, policy Policy, options SanitizerOptions) ([]byte, Acco
 		if err := s.feed(log[:n]); err != nil {
 			return nil, Account{}, err
 		}
-		_ = s.text(gather)
+		_ = s.output(gather)
 		log = log[n:]
 	}
 	if err := s.finish(); err != nil {
 		return nil, Account{}, err
 	}
-	_ = s.text(gather)
+	_ = s.output(gather)
 	return out, s.account(), nil
 }
 
@@ -85,9 +85,9 @@ func (s *sanitizer) finish() error {
 	return errorOf(C.escape_stream_sanitizer_finish(&s.raw))
 }
 
-func (s *sanitizer) text(to func([]byte) error) error {
+func (s *sanitizer) output(to func([]byte) error) error {
 	for from := C.size_t(0); ; {
-		count := C.escape_stream_sanitizer_text(&s.raw, from, first(s.room), C.size_t(len(s.room)))
+		count := C.escape_stream_sanitizer_output(&s.raw, from, first(s.room), C.size_t(len(s.room)))
 		if count == 0 {
 			return nil
 		}

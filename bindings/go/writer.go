@@ -30,7 +30,7 @@ func (w *Writer) Write(p []byte) (int, error) {
 	if w.err = w.f.feed(p); w.err != nil {
 		return 0, w.err
 	}
-	if w.err = w.f.text(w.pass); w.err != nil {
+	if w.err = w.f.output(w.pass); w.err != nil {
 		return 0, w.err
 	}
 	return len(p), nil
@@ -47,7 +47,7 @@ func (w *Writer) Close() error {
 		err = w.f.finish()
 	}
 	if err == nil {
-		err = w.f.text(w.pass)
+		err = w.f.output(w.pass)
 	}
 	w.f.end()
 	w.err = ErrClosed

@@ -37,8 +37,8 @@ static uint32_t feed_it(const struct text_call *call, union in_chunks *it, struc
 static size_t text_of(
     const struct text_call *call, union in_chunks *it, size_t from, uint8_t *out, size_t capacity) {
     at_hand.calls++;
-    return call->filters ? escape_stream_filter_text(&it->filter, from, out, capacity)
-                         : escape_stream_normal_text(&it->normaliser, from, out, capacity);
+    return call->filters ? escape_stream_filter_output(&it->filter, from, out, capacity)
+                         : escape_stream_normal_output(&it->normaliser, from, out, capacity);
 }
 
 static void end_it(const struct text_call *call, union in_chunks *it) {
@@ -101,7 +101,7 @@ static void check_finish(union in_chunks *it) {
     at_hand.calls++;
     if (escape_stream_normal_finish(&it->normaliser) != ESCAPE_STREAM_DONE || requests != 0)
         fails("another status of an end, or a request for memory", (size_t)requests);
-    if (escape_stream_normal_text(&it->normaliser, 0, placed(&outs, 1), 1) != 0)
+    if (escape_stream_normal_output(&it->normaliser, 0, placed(&outs, 1), 1) != 0)
         fails("the end added a text", 0);
 }
 

@@ -37,7 +37,7 @@ static size_t add_text(struct escape_stream_sanitizer *it, uint8_t *to, size_t l
     do {
         uint8_t *out = placed(&outs, capacity);
         at_hand.calls++;
-        count = escape_stream_sanitizer_text(it, from, out, capacity);
+        count = escape_stream_sanitizer_output(it, from, out, capacity);
         if (count > capacity || count > sizeof given[0] - length)
             fails("more text than there is room for", count);
         memcpy(to + length, out, count);

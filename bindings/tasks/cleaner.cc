@@ -56,8 +56,8 @@ private:
         size_t count = 0;
         if (status != ESCAPE_STREAM_DONE)
             throw std::bad_alloc();
-        for (size_t at = 0; (count = escape_stream_sanitizer_text(&it, at, room, sizeof room)) > 0;
-             at += count)
+        for (size_t at = 0;
+             (count = escape_stream_sanitizer_output(&it, at, room, sizeof room)) > 0; at += count)
             out.append(reinterpret_cast<const char *>(room), count);
     }
 

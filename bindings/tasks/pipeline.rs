@@ -20,7 +20,7 @@ async fn clean(log: impl AsyncRead + Unpin, lines: Sender<Vec<u8>>) -> io::Resul
             sanitizer.feed(&line)?;
         }
         let mut text = Vec::new();
-        sanitizer.text(|part| text.extend_from_slice(part));
+        sanitizer.output(|part| text.extend_from_slice(part));
         if !text.is_empty() && lines.send(text).await.is_err() || is_end {
             return Ok(sanitizer.account()?);
         }

@@ -78,10 +78,10 @@ class InChunks extends Kept {
   }
 
   #push(to) {
-    const text = calls[`${this.#name}_text`];
+    const output = calls[`${this.#name}_output`];
     const { text: room } = rooms();
     for (let from = 0; ; ) {
-      const count = text(this.#at, from, room, CHUNK);
+      const count = output(this.#at, from, room, CHUNK);
       if (count === 0) return;
       to.push(memory().bytes.subarray(room, room + count));
       from += count;

@@ -70,7 +70,8 @@ static void check(uint32_t status)
     do {                                                                                         \
         static uint8_t room[4096];                                                               \
         size_t count;                                                                            \
-        for (size_t from = 0; (count = escape_stream_##name##_text(it, from, room, sizeof room)); \
+        for (size_t from = 0;                                                                    \
+             (count = escape_stream_##name##_output(it, from, room, sizeof room));               \
              from += count)                                                                      \
             put(room, count);                                                                    \
     } while (0)

@@ -30,7 +30,7 @@ class Filter(InChunks):
     _name = "filter"
     _feed = _library.filter_feed
     _finish = _library.filter_finish
-    _text_from = _library.filter_text
+    _output_from = _library.filter_output
     _end = _library.filter_end
 
     def __init__(self, policy: Policy = Policy.TEXT, limit: int = DEFAULT_LIMIT) -> None:

@@ -25,7 +25,7 @@ class Page(InChunks):
     _name = "page"
     _feed = _library.html_feed
     _finish = _library.html_finish
-    _text_from = _library.html_text
+    _output_from = _library.html_output
     _end = _library.html_end
 
     def __init__(

@@ -19,7 +19,7 @@ class InChunks:
     _name: ClassVar[str]
     _feed: ClassVar[Any]
     _finish: ClassVar[Any]
-    _text_from: ClassVar[Any]
+    _output_from: ClassVar[Any]
     _end: ClassVar[Any]
 
     def __init__(self, raw: Structure) -> None:
@@ -36,7 +36,7 @@ class InChunks:
         """
         chunk = _library.bytes_of(chunk)
         with _library.used(self._in_use, self._name):
-            return self._text_after(self._feed(byref(self._raw), chunk, len(chunk)))
+            return self._output_after(self._feed(byref(self._raw), chunk, len(chunk)))
 
     def finish(self) -> bytes:
         """Ends the stream, and begins the next. Returns the text that the end adds. An unfinished
@@ -46,7 +46,7 @@ class InChunks:
         ValueError if it is closed, and RuntimeError while another thread uses it.
         """
         with _library.used(self._in_use, self._name):
-            return self._text_after(self._finish(byref(self._raw)))
+            return self._output_after(self._finish(byref(self._raw)))
 
     def close(self) -> None:
         """Gives back its memory. A sequence that is unfinished at the end of a stream adds nothing.
@@ -73,11 +73,11 @@ class InChunks:
         if hasattr(self, "_room"):
             self._end(byref(self._raw))
 
-    def _text_after(self, status: int) -> bytes:
+    def _output_after(self, status: int) -> bytes:
         if status == _library.NOT_BEGUN:
             raise ValueError(f"the {self._name} is closed")
         _library.done(status)
         text = bytearray()
-        while count := self._text_from(byref(self._raw), len(text), self._room, _ROOM):
+        while count := self._output_from(byref(self._raw), len(text), self._room, _ROOM):
             text += memoryview(self._room)[:count]
         return bytes(text)

@@ -285,9 +285,9 @@ filter_finish = _short.escape_stream_filter_finish
 filter_finish.argtypes = (POINTER(RawFilter),)
 filter_finish.restype = c_uint32
 
-filter_text = _short.escape_stream_filter_text
-filter_text.argtypes = (POINTER(RawFilter), c_size_t, *_room)
-filter_text.restype = c_size_t
+filter_output = _short.escape_stream_filter_output
+filter_output.argtypes = (POINTER(RawFilter), c_size_t, *_room)
+filter_output.restype = c_size_t
 
 filter_end = _short.escape_stream_filter_end
 filter_end.argtypes = (POINTER(RawFilter),)
@@ -305,9 +305,9 @@ sanitizer_finish = _short.escape_stream_sanitizer_finish
 sanitizer_finish.argtypes = (POINTER(RawSanitizer),)
 sanitizer_finish.restype = c_uint32
 
-sanitizer_text = _short.escape_stream_sanitizer_text
-sanitizer_text.argtypes = (POINTER(RawSanitizer), c_size_t, *_room)
-sanitizer_text.restype = c_size_t
+sanitizer_output = _short.escape_stream_sanitizer_output
+sanitizer_output.argtypes = (POINTER(RawSanitizer), c_size_t, *_room)
+sanitizer_output.restype = c_size_t
 
 sanitizer_account = _short.escape_stream_sanitizer_account
 sanitizer_account.argtypes = (POINTER(RawSanitizer), POINTER(RawAccount))
@@ -329,9 +329,9 @@ html_finish = _short.escape_stream_html_finish
 html_finish.argtypes = (POINTER(RawPage),)
 html_finish.restype = c_uint32
 
-html_text = _short.escape_stream_html_text
-html_text.argtypes = (POINTER(RawPage), c_size_t, *_room)
-html_text.restype = c_size_t
+html_output = _short.escape_stream_html_output
+html_output.argtypes = (POINTER(RawPage), c_size_t, *_room)
+html_output.restype = c_size_t
 
 html_end = _short.escape_stream_html_end
 html_end.argtypes = (POINTER(RawPage),)
@@ -349,9 +349,9 @@ normal_finish = _short.escape_stream_normal_finish
 normal_finish.argtypes = (POINTER(RawNormaliser),)
 normal_finish.restype = c_uint32
 
-normal_text = _short.escape_stream_normal_text
-normal_text.argtypes = (POINTER(RawNormaliser), c_size_t, *_room)
-normal_text.restype = c_size_t
+normal_output = _short.escape_stream_normal_output
+normal_output.argtypes = (POINTER(RawNormaliser), c_size_t, *_room)
+normal_output.restype = c_size_t
 
 normal_end = _short.escape_stream_normal_end
 normal_end.argtypes = (POINTER(RawNormaliser),)

@@ -24,7 +24,7 @@ class Normaliser(InChunks):
     _name = "normaliser"
     _feed = _library.normal_feed
     _finish = _library.normal_finish
-    _text_from = _library.normal_text
+    _output_from = _library.normal_output
     _end = _library.normal_end
 
     def __init__(self, limit: int = DEFAULT_LIMIT) -> None:

@@ -179,7 +179,7 @@ class Sanitizer(InChunks):
     _name = "sanitizer"
     _feed = _library.sanitizer_feed
     _finish = _library.sanitizer_finish
-    _text_from = _library.sanitizer_text
+    _output_from = _library.sanitizer_output
     _end = _library.sanitizer_end
 
     def __init__(

@@ -7,31 +7,31 @@ use crate::Error;
 /// The number of bytes that are kept of a string, if no limit is given.
 pub(crate) const DEFAULT_LIMIT: usize = 1_048_576;
 
-/// Calls `act` with a text in parts; `text_from` writes it from a byte on, as much as fits. Most
+/// Calls `act` with a text in parts; `output_from` writes it from a byte on, as much as fits. Most
 /// texts are those of a line, so the room for the first part is small: all of it is cleared.
 pub(crate) fn in_parts(
-    mut text_from: impl FnMut(usize, &mut [u8]) -> usize,
+    mut output_from: impl FnMut(usize, &mut [u8]) -> usize,
     mut act: impl FnMut(&[u8]),
 ) {
     let mut room = [0; 256];
-    let count = text_from(0, &mut room);
+    let count = output_from(0, &mut room);
     if count > 0 {
         act(&room[..count]);
     }
     if count == room.len() {
-        more_parts(count, text_from, act);
+        more_parts(count, output_from, act);
     }
 }
 
 #[inline(never)]
 fn more_parts(
     mut from: usize,
-    mut text_from: impl FnMut(usize, &mut [u8]) -> usize,
+    mut output_from: impl FnMut(usize, &mut [u8]) -> usize,
     mut act: impl FnMut(&[u8]),
 ) {
     let mut room = [0; 4096];
     loop {
-        let count = text_from(from, &mut room);
+        let count = output_from(from, &mut room);
         if count == 0 {
             return;
         }
@@ -50,7 +50,7 @@ pub(crate) trait InChunks {
     fn finish(&mut self) -> Result<(), Error>;
 
     /// Writes the text that the last call added, from a byte of it on, and says how much.
-    fn text_from(&mut self, from: usize, out: &mut [u8]) -> usize;
+    fn output_from(&mut self, from: usize, out: &mut [u8]) -> usize;
 }
 
 #[cfg(feature = "std")]
@@ -63,8 +63,8 @@ impl InChunks for crate::ChunkFilter {
         self.finish()
     }
 
-    fn text_from(&mut self, from: usize, out: &mut [u8]) -> usize {
-        self.text_from(from, out)
+    fn output_from(&mut self, from: usize, out: &mut [u8]) -> usize {
+        self.output_from(from, out)
     }
 }
 
@@ -78,8 +78,8 @@ impl InChunks for crate::Normaliser {
         self.finish()
     }
 
-    fn text_from(&mut self, from: usize, out: &mut [u8]) -> usize {
-        self.text_from(from, out)
+    fn output_from(&mut self, from: usize, out: &mut [u8]) -> usize {
+        self.output_from(from, out)
     }
 }
 
@@ -93,7 +93,7 @@ impl InChunks for crate::Sanitizer {
         self.finish()
     }
 
-    fn text_from(&mut self, from: usize, out: &mut [u8]) -> usize {
-        self.text_from(from, out)
+    fn output_from(&mut self, from: usize, out: &mut [u8]) -> usize {
+        self.output_from(from, out)
     }
 }

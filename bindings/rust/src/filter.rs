@@ -14,10 +14,10 @@ use crate::{Error, Policy, ffi};
 /// let mut filter = ChunkFilter::new(Policy::Color)?;
 /// for chunk in [&b"a\x1b]0;a ti"[..], b"tle\x07\x1b[3", b"1mred"] {
 ///     filter.feed(chunk)?;
-///     filter.text(|part| text.extend_from_slice(part));
+///     filter.output(|part| text.extend_from_slice(part));
 /// }
 /// filter.finish()?;
-/// filter.text(|part| text.extend_from_slice(part));
+/// filter.output(|part| text.extend_from_slice(part));
 /// assert_eq!(text, b"a\x1b[31mred\x1b[0m");
 /// # Ok::<(), escape_stream::Error>(())
 /// ```
@@ -47,8 +47,8 @@ impl ChunkFilter {
         Ok(ChunkFilter { raw })
     }
 
-    /// Takes the next chunk of the stream. [`text`](ChunkFilter::text) then gives the text that it
-    /// adds, and that of the chunk before is gone.
+    /// Takes the next chunk of the stream. [`output`](ChunkFilter::output) then gives the text that
+    /// it adds, and that of the chunk before is gone.
     ///
     /// # Errors
     ///
@@ -58,8 +58,8 @@ impl ChunkFilter {
         self.raw.feed(chunk)
     }
 
-    /// Ends the stream, and begins the next. [`text`](ChunkFilter::text) then gives the text that
-    /// takes back the changes that the stream left at a terminal, as renditions and a link. An
+    /// Ends the stream, and begins the next. [`output`](ChunkFilter::output) then gives the text
+    /// that takes back the changes that the stream left at a terminal, as renditions and a link. An
     /// unfinished sequence is dropped.
     ///
     /// # Errors
@@ -71,14 +71,14 @@ impl ChunkFilter {
     }
 
     /// Calls `act` with the text that the last chunk or the end of the stream added, in parts.
-    pub fn text(&mut self, act: impl FnMut(&[u8])) {
-        in_parts(|from, out| self.text_from(from, out), act);
+    pub fn output(&mut self, act: impl FnMut(&[u8])) {
+        in_parts(|from, out| self.output_from(from, out), act);
     }
 
     /// Writes the text that the last call added, from its byte `from` on, to the beginning of
     /// `out`, as much as fits, and returns how many bytes these are: 0 at the end of the text.
-    pub fn text_from(&mut self, from: usize, out: &mut [u8]) -> usize {
-        self.raw.text(from, out)
+    pub fn output_from(&mut self, from: usize, out: &mut [u8]) -> usize {
+        self.raw.output(from, out)
     }
 }
 

@@ -27,10 +27,10 @@ pub struct Layout {
 /// let mut page = ChunkPage::new(Layout::default())?;
 /// for chunk in [&b"a <b>\x1b[1"[..], b";31mred"] {
 ///     page.feed(chunk)?;
-///     page.text(|part| html.extend_from_slice(part));
+///     page.output(|part| html.extend_from_slice(part));
 /// }
 /// page.finish()?;
-/// page.text(|part| html.extend_from_slice(part));
+/// page.output(|part| html.extend_from_slice(part));
 /// assert_eq!(html, b"a &lt;b&gt;<span class=\"es-bold es-fg-red\">red</span>");
 /// # Ok::<(), escape_stream::Error>(())
 /// ```
@@ -60,8 +60,8 @@ impl ChunkPage {
         Ok(ChunkPage { raw })
     }
 
-    /// Takes the next chunk of the stream. [`text`](ChunkPage::text) then gives the text that it
-    /// adds to the page, and that of the chunk before is gone.
+    /// Takes the next chunk of the stream. [`output`](ChunkPage::output) then gives the text that
+    /// it adds to the page, and that of the chunk before is gone.
     ///
     /// # Errors
     ///
@@ -71,8 +71,8 @@ impl ChunkPage {
         self.raw.feed(chunk)
     }
 
-    /// Ends the stream. [`text`](ChunkPage::text) then gives the text that closes the open tags:
-    /// with it the texts of all chunks, one after another, are a page. It takes no memory.
+    /// Ends the stream. [`output`](ChunkPage::output) then gives the text that closes the open
+    /// tags: with it the texts of all chunks, one after another, are a page. It takes no memory.
     ///
     /// # Errors
     ///
@@ -82,14 +82,14 @@ impl ChunkPage {
     }
 
     /// Calls `act` with the text that the last chunk or the end of the stream added, in parts.
-    pub fn text(&mut self, act: impl FnMut(&[u8])) {
-        in_parts(|from, out| self.text_from(from, out), act);
+    pub fn output(&mut self, act: impl FnMut(&[u8])) {
+        in_parts(|from, out| self.output_from(from, out), act);
     }
 
     /// Writes the text that the last call added, from its byte `from` on, to the beginning of
     /// `out`, as much as fits, and returns how many bytes these are: 0 at the end of the text.
-    pub fn text_from(&mut self, from: usize, out: &mut [u8]) -> usize {
-        self.raw.text(from, out)
+    pub fn output_from(&mut self, from: usize, out: &mut [u8]) -> usize {
+        self.raw.output(from, out)
     }
 }
 

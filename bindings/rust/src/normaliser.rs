@@ -15,7 +15,7 @@ use crate::{Error, ffi};
 /// let mut normaliser = Normaliser::new()?;
 /// for chunk in [&b"a\x1b]0;a ti"[..], b"tle\x07\x1b[0", b"1m"] {
 ///     normaliser.feed(chunk)?;
-///     normaliser.text(|part| text.extend_from_slice(part));
+///     normaliser.output(|part| text.extend_from_slice(part));
 /// }
 /// assert_eq!(text, b"a\x1b]0;a title\x1b\\\x1b[1m");
 /// # Ok::<(), escape_stream::Error>(())
@@ -46,8 +46,8 @@ impl Normaliser {
         Ok(Normaliser { raw })
     }
 
-    /// Takes the next chunk of the stream. [`text`](Normaliser::text) then gives the text that it
-    /// adds to the normal form, and that of the chunk before is gone.
+    /// Takes the next chunk of the stream. [`output`](Normaliser::output) then gives the text that
+    /// it adds to the normal form, and that of the chunk before is gone.
     ///
     /// # Errors
     ///
@@ -68,14 +68,14 @@ impl Normaliser {
     }
 
     /// Calls `act` with the text that the last chunk added, in parts.
-    pub fn text(&mut self, act: impl FnMut(&[u8])) {
-        in_parts(|from, out| self.text_from(from, out), act);
+    pub fn output(&mut self, act: impl FnMut(&[u8])) {
+        in_parts(|from, out| self.output_from(from, out), act);
     }
 
     /// Writes the text that the last call added, from its byte `from` on, to the beginning of
     /// `out`, as much as fits, and returns how many bytes these are: 0 at the end of the text.
-    pub fn text_from(&mut self, from: usize, out: &mut [u8]) -> usize {
-        self.raw.text(from, out)
+    pub fn output_from(&mut self, from: usize, out: &mut [u8]) -> usize {
+        self.raw.output(from, out)
     }
 }
 

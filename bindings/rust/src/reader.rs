@@ -179,7 +179,7 @@ impl<R: Read, P: InChunks> ChunkReader<R, P> {
 
     pub(crate) fn read(&mut self, out: &mut [u8]) -> io::Result<usize> {
         loop {
-            let count = self.chunks.text_from(self.read, out);
+            let count = self.chunks.output_from(self.read, out);
             self.read += count;
             if count > 0 || out.is_empty() || self.has_ended {
                 return Ok(count);

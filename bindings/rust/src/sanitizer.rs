@@ -42,10 +42,10 @@ pub struct Account {
 /// let mut log = Sanitizer::new(SanitizerOptions::new(Policy::Text))?;
 /// for chunk in [&b"one\x1b]0;a ti"[..], b"tle\ntwo\x1b[3", b"1m three\n"] {
 ///     log.feed(chunk)?;
-///     log.text(|part| text.extend_from_slice(part));
+///     log.output(|part| text.extend_from_slice(part));
 /// }
 /// log.finish()?;
-/// log.text(|part| text.extend_from_slice(part));
+/// log.output(|part| text.extend_from_slice(part));
 /// assert_eq!(text, b"one\ntwo three\n");
 ///
 /// let account = log.account()?;
@@ -72,8 +72,8 @@ impl Sanitizer {
         Ok(Sanitizer { raw })
     }
 
-    /// Takes the next chunk of the stream. [`text`](Sanitizer::text) then gives the text that it
-    /// adds, and that of the chunk before is gone.
+    /// Takes the next chunk of the stream. [`output`](Sanitizer::output) then gives the text that
+    /// it adds, and that of the chunk before is gone.
     ///
     /// # Errors
     ///
@@ -84,7 +84,7 @@ impl Sanitizer {
         self.raw.feed(chunk)
     }
 
-    /// Ends the stream. [`text`](Sanitizer::text) then gives the text that this adds, and the
+    /// Ends the stream. [`output`](Sanitizer::output) then gives the text that this adds, and the
     /// account is that of the whole stream.
     ///
     /// # Errors
@@ -95,14 +95,14 @@ impl Sanitizer {
     }
 
     /// Calls `act` with the text that the last chunk or the end of the stream added, in parts.
-    pub fn text(&mut self, act: impl FnMut(&[u8])) {
-        in_parts(|from, out| self.text_from(from, out), act);
+    pub fn output(&mut self, act: impl FnMut(&[u8])) {
+        in_parts(|from, out| self.output_from(from, out), act);
     }
 
     /// Writes the text that the last call added, from its byte `from` on, to the beginning of
     /// `out`, as much as fits, and returns how many bytes these are: 0 at the end of the text.
-    pub fn text_from(&mut self, from: usize, out: &mut [u8]) -> usize {
-        self.raw.text(from, out)
+    pub fn output_from(&mut self, from: usize, out: &mut [u8]) -> usize {
+        self.raw.output(from, out)
     }
 
     /// The fates of the bytes of the stream: of those of the lines, or of the parts of a stream

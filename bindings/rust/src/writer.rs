@@ -235,7 +235,7 @@ impl<W: Write, P: InChunks> ChunkWriter<W, P> {
     // Writes what is left of the text.
     fn write_text(&mut self) -> io::Result<()> {
         loop {
-            let count = self.chunks.text_from(self.written, &mut self.room);
+            let count = self.chunks.output_from(self.written, &mut self.room);
             if count == 0 {
                 return Ok(());
             }

@@ -84,13 +84,13 @@ fn an_error_is_reported_before_more_is_taken() {
 fn a_text_is_read_in_parts() {
     let mut chunks = ChunkFilter::new(Policy::Text).unwrap();
     let mut out = [0; 4];
-    assert_eq!(chunks.text_from(0, &mut out), 0);
+    assert_eq!(chunks.output_from(0, &mut out), 0);
     chunks.feed(b"abcdef").unwrap();
-    assert_eq!((chunks.text_from(0, &mut out), &out), (4, b"abcd"));
-    assert_eq!((chunks.text_from(4, &mut out), &out), (2, b"efcd"));
-    assert_eq!(chunks.text_from(usize::MAX, &mut out), 0);
+    assert_eq!((chunks.output_from(0, &mut out), &out), (4, b"abcd"));
+    assert_eq!((chunks.output_from(4, &mut out), &out), (2, b"efcd"));
+    assert_eq!(chunks.output_from(usize::MAX, &mut out), 0);
     chunks.feed(b"\x1b]0;").unwrap();
-    assert_eq!(chunks.text_from(0, &mut out), 0);
+    assert_eq!(chunks.output_from(0, &mut out), 0);
 }
 
 #[test]

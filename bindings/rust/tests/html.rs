@@ -12,10 +12,10 @@ fn page(layout: Layout, size: usize) -> String {
     let mut page = ChunkPage::with_limit(layout, 1000).unwrap();
     for chunk in STREAM.chunks(size) {
         page.feed(chunk).unwrap();
-        page.text(|part| html.extend_from_slice(part));
+        page.output(|part| html.extend_from_slice(part));
     }
     page.finish().unwrap();
-    page.text(|part| html.extend_from_slice(part));
+    page.output(|part| html.extend_from_slice(part));
     String::from_utf8(html).unwrap()
 }
 
@@ -54,10 +54,10 @@ fn after_the_end() {
     page.feed(b"\x1b[1ma").unwrap();
     page.finish().unwrap();
     let mut closing = [0; 16];
-    assert_eq!(page.text_from(0, &mut closing), 7);
+    assert_eq!(page.output_from(0, &mut closing), 7);
     assert_eq!(&closing[..7], b"</span>");
     assert_eq!(page.finish(), Ok(()));
     assert_eq!(page.feed(b"b"), Err(Error::Failed));
     assert_eq!(page.finish(), Err(Error::Failed));
-    assert_eq!(page.text_from(0, &mut closing), 0);
+    assert_eq!(page.output_from(0, &mut closing), 0);
 }

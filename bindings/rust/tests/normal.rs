@@ -15,11 +15,11 @@ fn in_chunks() {
         let mut text = Vec::new();
         for chunk in STREAM.chunks(size) {
             normaliser.feed(chunk).unwrap();
-            normaliser.text(|part| text.extend_from_slice(part));
+            normaliser.output(|part| text.extend_from_slice(part));
         }
         assert_eq!(text, whole, "{size}");
         normaliser.finish().unwrap();
-        assert_eq!(normaliser.text_from(0, &mut [0; 8]), 0, "{size}");
+        assert_eq!(normaliser.output_from(0, &mut [0; 8]), 0, "{size}");
     }
 }
 
@@ -72,11 +72,11 @@ fn past_the_limit() -> Result<(), Error> {
     let mut out = [0; 16];
     let mut normaliser = Normaliser::with_limit(3)?;
     normaliser.feed(b"a\x1b]2;bc\x07d")?;
-    assert_eq!(normaliser.text_from(0, &mut out), 2);
+    assert_eq!(normaliser.output_from(0, &mut out), 2);
     assert_eq!(&out[..2], b"ad");
     normaliser.feed(b"\x1b]2;b\x07")?;
-    assert_eq!(normaliser.text_from(0, &mut out), 7);
+    assert_eq!(normaliser.output_from(0, &mut out), 7);
     assert_eq!(&out[..7], b"\x1b]2;b\x1b\\");
-    assert_eq!(normaliser.text_from(7, &mut out), 0);
+    assert_eq!(normaliser.output_from(7, &mut out), 0);
     Ok(())
 }

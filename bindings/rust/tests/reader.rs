@@ -43,9 +43,9 @@ fn whole(policy: Policy) -> Vec<u8> {
     let mut text = Vec::new();
     let mut filter = ChunkFilter::with_limit(policy, 1000).unwrap();
     filter.feed(STREAM).unwrap();
-    filter.text(|part| text.extend_from_slice(part));
+    filter.output(|part| text.extend_from_slice(part));
     filter.finish().unwrap();
-    filter.text(|part| text.extend_from_slice(part));
+    filter.output(|part| text.extend_from_slice(part));
     text
 }
 

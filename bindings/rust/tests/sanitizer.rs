@@ -18,10 +18,10 @@ fn sanitized(options: SanitizerOptions, stream: &[u8], size: usize) -> (Vec<u8>,
     let mut log = Sanitizer::new(options).unwrap();
     for chunk in stream.chunks(size) {
         log.feed(chunk).unwrap();
-        log.text(|part| text.extend_from_slice(part));
+        log.output(|part| text.extend_from_slice(part));
     }
     log.finish().unwrap();
-    log.text(|part| text.extend_from_slice(part));
+    log.output(|part| text.extend_from_slice(part));
     (text, log.account().unwrap())
 }
 

@@ -44,7 +44,7 @@ fn end_of(policy: Policy, limit: usize, stream: &[u8]) -> Vec<u8> {
     let mut filter = ChunkFilter::with_limit(policy, limit).unwrap();
     filter.feed(stream).unwrap();
     filter.finish().unwrap();
-    filter.text(|part| end.extend_from_slice(part));
+    filter.output(|part| end.extend_from_slice(part));
     end
 }
 
@@ -54,7 +54,7 @@ fn normal_in_chunks(stream: &[u8], size: usize) -> Vec<u8> {
     let mut normaliser = Normaliser::with_limit(stream.len()).unwrap();
     for chunk in stream.chunks(size) {
         normaliser.feed(chunk).unwrap();
-        normaliser.text(|part| text.extend_from_slice(part));
+        normaliser.output(|part| text.extend_from_slice(part));
     }
     text
 }

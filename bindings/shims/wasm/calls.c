@@ -65,7 +65,7 @@ void host_give(NUMBER at) { heap_give(BYTES(at)); }
 #define IN_CHUNKS(name, type)                                                              \
     EXPORTED(name##_feed, "(i32, i32, i32) -> (i32)");                                     \
     EXPORTED(name##_finish, "(i32) -> (i32)");                                             \
-    EXPORTED(name##_text, "(i32, i32, i32, i32) -> (i32)");                                \
+    EXPORTED(name##_output, "(i32, i32, i32, i32) -> (i32)");                              \
     EXPORTED(name##_end, "(i32) -> ()");                                                   \
     NUMBER host_##name##_feed(NUMBER it, NUMBER bytes, NUMBER length)                      \
     {                                                                                      \
@@ -75,9 +75,9 @@ void host_give(NUMBER at) { heap_give(BYTES(at)); }
     {                                                                                      \
         return escape_stream_##name##_finish(AT(type, it));                                \
     }                                                                                      \
-    NUMBER host_##name##_text(NUMBER it, NUMBER from, NUMBER out, NUMBER room)             \
+    NUMBER host_##name##_output(NUMBER it, NUMBER from, NUMBER out, NUMBER room)           \
     {                                                                                      \
-        return (NUMBER)escape_stream_##name##_text(AT(type, it), from, BYTES(out), room);  \
+        return (NUMBER)escape_stream_##name##_output(AT(type, it), from, BYTES(out), room); \
     }                                                                                      \
     void host_##name##_end(NUMBER it) { escape_stream_##name##_end(AT(type, it)); }
 

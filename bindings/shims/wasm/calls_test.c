@@ -30,7 +30,7 @@ void host_give(NUMBER at);
 #define CHUNKS(name)                                                           \
     NUMBER host_##name##_feed(NUMBER it, NUMBER bytes, NUMBER length);         \
     NUMBER host_##name##_finish(NUMBER it);                                    \
-    NUMBER host_##name##_text(NUMBER it, NUMBER from, NUMBER out, NUMBER room); \
+    NUMBER host_##name##_output(NUMBER it, NUMBER from, NUMBER out, NUMBER room); \
     void host_##name##_end(NUMBER it);
 CHUNKS(filter)
 CHUNKS(sanitizer)
@@ -102,11 +102,11 @@ static bool is_text(NUMBER at, NUMBER size, const char *wanted)
     do {                                                           \
         NUMBER bytes = text(stream), out = zeros(256), n;          \
         CHECK(host_##name##_feed(it, bytes, length) == 0);         \
-        n = host_##name##_text(it, 0, out, 256);                   \
+        n = host_##name##_output(it, 0, out, 256);                 \
         CHECK(is_text(out, n, fed));                               \
-        CHECK(n < 2 || host_##name##_text(it, 1, out, 1) == 1);    \
+        CHECK(n < 2 || host_##name##_output(it, 1, out, 1) == 1);  \
         CHECK(host_##name##_finish(it) == 0);                      \
-        CHECK(is_text(out, host_##name##_text(it, 0, out, 256), ended)); \
+        CHECK(is_text(out, host_##name##_output(it, 0, out, 256), ended)); \
     } while (0)
 
 static void test_texts(void)
@@ -138,7 +138,7 @@ static void test_sanitizer(void)
     CHECK(host_sanitizer_begin(it, options) == 0);
     CHECK(host_sanitizer_feed(it, at, length) == 0);
     at = zeros(16);
-    CHECK(is_text(at, host_sanitizer_text(it, 0, at, 16), "ab\n"));
+    CHECK(is_text(at, host_sanitizer_output(it, 0, at, 16), "ab\n"));
     CHECK(host_sanitizer_finish(it) == 0);
     CHECK(host_sanitizer_account(it, out) == 0);
     account = AT(struct escape_stream_account, out);

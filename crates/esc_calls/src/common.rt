@@ -28,14 +28,19 @@ pub(crate) fn begin(alloc: Global, stream: &mut InChunks, kept: Kept) -> u32
 
 /// Copies the text that the last call added, from its byte `from` on, to the beginning of `out`,
 /// as much as fits, and leaves the rest of `out` as it is. Returns how many bytes these are.
-pub(crate) fn copy_text(alloc: Global, stream: &mut InChunks, from: usize, out: &mut [u8]) -> usize
+pub(crate) fn copy_output(
+    alloc: Global,
+    stream: &mut InChunks,
+    from: usize,
+    out: &mut [u8],
+) -> usize
     ensures copied { Copies (text_of stream.old) from out.old out.new result }
     ensures kept { Stays stream.old stream.new }
 {
     let Some(kept) = stream.take(alloc) else {
         return 0;
     };
-    let count = put_from(kept.text().as_bytes(), from, out);
+    let count = put_from(kept.output().as_bytes(), from, out);
     *stream = InChunks::of(kept);
     count
 }

@@ -10,7 +10,7 @@ ghost use Rattle.esc_calls.specs.Output.{Copies};
 ghost use Rattle.fallible_alloc.specs.Refusals.{Refused};
 
 use crate::change_kept::change_kept;
-use crate::common::{begin, copy_text};
+use crate::common::{begin, copy_output};
 use crate::filter::policy_of;
 use crate::in_chunks::InChunks;
 use crate::kept::Kept;
@@ -65,12 +65,12 @@ pub fn filter_finish(alloc: Global, filter: &mut InChunks) -> u32
     change_kept!(alloc, filter, Filter(inner), inner.finish())
 }
 
-/// Does the work of `escape_stream_filter_text` of `escape_c`.
-pub fn filter_text(alloc: Global, filter: &mut InChunks, from: usize, out: &mut [u8]) -> usize
+/// Does the work of `escape_stream_filter_output` of `escape_c`.
+pub fn filter_output(alloc: Global, filter: &mut InChunks, from: usize, out: &mut [u8]) -> usize
     ensures copied { Copies (text_of filter.old) from out.old out.new result }
     ensures kept { Stays filter.old filter.new }
 {
-    copy_text(alloc, filter, from, out)
+    copy_output(alloc, filter, from, out)
 }
 
 /// Does the work of `escape_stream_filter_end` of `escape_c`.

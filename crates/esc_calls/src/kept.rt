@@ -25,14 +25,14 @@ pub enum Kept {
 
 impl Kept {
     /// Returns the text that the last call added.
-    pub(crate) fn text(&self) -> &str
+    pub(crate) fn output(&self) -> &str
         ensures { result.now ≡ kept_text self.now }
     {
         match self {
             Kept::Filter(filter) => filter.output(),
-            Kept::Page(page) => page.text(),
+            Kept::Page(page) => page.output(),
             Kept::Normal(normaliser) => normaliser.output(),
-            Kept::Sanitizer(state) => state.text(),
+            Kept::Sanitizer(state) => state.output(),
             Kept::Screen(_) => "",
         }
     }

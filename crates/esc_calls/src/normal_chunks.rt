@@ -7,7 +7,7 @@ ghost use Rattle.esc_calls.specs.Output.{Copies};
 ghost use Rattle.fallible_alloc.specs.Refusals.{Refused};
 
 use crate::change_kept::change_kept;
-use crate::common::{begin, copy_text};
+use crate::common::{begin, copy_output};
 use crate::in_chunks::InChunks;
 use crate::kept::Kept;
 use crate::{DONE, NO_MEMORY, NOT_BEGUN};
@@ -51,12 +51,12 @@ pub fn normal_finish(alloc: Global, normaliser: &mut InChunks) -> u32
     change_kept!(alloc, normaliser, Normal(inner), always inner.restart())
 }
 
-/// Does the work of `escape_stream_normal_text` of `escape_c`.
-pub fn normal_text(alloc: Global, normaliser: &mut InChunks, from: usize, out: &mut [u8]) -> usize
+/// Does the work of `escape_stream_normal_output` of `escape_c`.
+pub fn normal_output(alloc: Global, normaliser: &mut InChunks, from: usize, out: &mut [u8]) -> usize
     ensures copied { Copies (text_of normaliser.old) from out.old out.new result }
     ensures kept { Stays normaliser.old normaliser.new }
 {
-    copy_text(alloc, normaliser, from, out)
+    copy_output(alloc, normaliser, from, out)
 }
 
 /// Does the work of `escape_stream_normal_end` of `escape_c`.

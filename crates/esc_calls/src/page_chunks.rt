@@ -9,7 +9,7 @@ ghost use Rattle.esc_calls.specs.Output.{Copies};
 ghost use Rattle.fallible_alloc.specs.Refusals.{Refused};
 
 use crate::change_kept::change_kept;
-use crate::common::{begin, copy_text};
+use crate::common::{begin, copy_output};
 use crate::in_chunks::InChunks;
 use crate::kept::Kept;
 use crate::page_state::PageState;
@@ -74,12 +74,12 @@ pub fn html_finish(alloc: Global, page: &mut InChunks) -> u32
     change_kept!(alloc, page, Page(state), always state.has_ended = true)
 }
 
-/// Does the work of `escape_stream_html_text` of `escape_c`.
-pub fn html_text(alloc: Global, page: &mut InChunks, from: usize, out: &mut [u8]) -> usize
+/// Does the work of `escape_stream_html_output` of `escape_c`.
+pub fn html_output(alloc: Global, page: &mut InChunks, from: usize, out: &mut [u8]) -> usize
     ensures copied { Copies (text_of page.old) from out.old out.new result }
     ensures kept { Stays page.old page.new }
 {
-    copy_text(alloc, page, from, out)
+    copy_output(alloc, page, from, out)
 }
 
 /// Does the work of `escape_stream_html_end` of `escape_c`.

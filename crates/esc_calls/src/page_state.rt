@@ -37,7 +37,7 @@ impl PageState {
     }
 
     /// Returns the text that the last call added.
-    pub(crate) fn text(&self) -> &str
+    pub(crate) fn output(&self) -> &str
         ensures { result.now ≡ state_text self.now }
     {
         if self.has_ended {

@@ -13,7 +13,7 @@ ghost use Rattle.fallible_alloc.specs.Refusals.{Refused};
 
 use crate::account_row::AccountRow;
 use crate::change_kept::change_kept;
-use crate::common::{begin, copy_text};
+use crate::common::{begin, copy_output};
 use crate::in_chunks::InChunks;
 use crate::kept::Kept;
 use crate::sanitizer_options::SanitizerOptions;
@@ -94,12 +94,17 @@ pub fn sanitizer_finish(alloc: Global, sanitizer: &mut InChunks) -> u32
     }
 }
 
-/// Does the work of `escape_stream_sanitizer_text` of `escape_c`.
-pub fn sanitizer_text(alloc: Global, sanitizer: &mut InChunks, from: usize, out: &mut [u8]) -> usize
+/// Does the work of `escape_stream_sanitizer_output` of `escape_c`.
+pub fn sanitizer_output(
+    alloc: Global,
+    sanitizer: &mut InChunks,
+    from: usize,
+    out: &mut [u8],
+) -> usize
     ensures copied { Copies (text_of sanitizer.old) from out.old out.new result }
     ensures kept { Stays sanitizer.old sanitizer.new }
 {
-    copy_text(alloc, sanitizer, from, out)
+    copy_output(alloc, sanitizer, from, out)
 }
 
 /// Does the work of `escape_stream_sanitizer_account` of `escape_c`.

@@ -110,7 +110,7 @@ impl SanitizerState {
     }
 
     /// The text that the last call added.
-    pub(crate) fn text(&self) -> &str
+    pub(crate) fn output(&self) -> &str
         ensures { result.now ≡ state_text self.now }
     {
         if self.is_closing {

@@ -12,8 +12,8 @@
  */
 #define PROGRAM "chunks"
 #define IN_CHUNKS escape_stream_filter_state
-#define ADDED escape_stream_filter_text
-#include "added.h"
+#define OUTPUT escape_stream_filter_output
+#include "output.h"
 #include "streams.h"
 
 /* The stream in chunks of this size. Returns the status; the text is the beginning of what is
@@ -75,7 +75,7 @@ static void check_states(void) {
     wants(
         escape_stream_filter_feed(&filter, bytes, 3) == ESCAPE_STREAM_NOT_BEGUN,
         "fed before it began", "", 0);
-    wants(escape_stream_filter_text(&filter, 0, out, 8) == 0, "a text before it began", "", 0);
+    wants(escape_stream_filter_output(&filter, 0, out, 8) == 0, "a text before it began", "", 0);
     wants(
         escape_stream_filter_begin(&filter, 4, LIMIT) == ESCAPE_STREAM_UNKNOWN_POLICY,
         "an unknown policy", "", 4);
@@ -88,12 +88,13 @@ static void check_states(void) {
                 ESCAPE_STREAM_DONE,
             "begun again", "", 0);
         wants(
-            escape_stream_filter_text(&filter, 0, out, 8) == 0, "a text before the first chunk", "",
-            0);
+            escape_stream_filter_output(&filter, 0, out, 8) == 0, "a text before the first chunk",
+            "", 0);
         wants(escape_stream_filter_feed(&filter, bytes, 3) == ESCAPE_STREAM_DONE, "fed", "", 0);
         wants(
-            escape_stream_filter_text(&filter, 0, out, 8) == 1 && out[0] == 'a', "its text", "", 0);
-        wants(escape_stream_filter_text(&filter, 0, out, 8) == 1, "its text once more", "", 0);
+            escape_stream_filter_output(&filter, 0, out, 8) == 1 && out[0] == 'a', "its text", "",
+            0);
+        wants(escape_stream_filter_output(&filter, 0, out, 8) == 1, "its text once more", "", 0);
     }
     wants(
         escape_stream_filter_begin(&filter, 5, LIMIT) == ESCAPE_STREAM_UNKNOWN_POLICY,
@@ -123,13 +124,13 @@ static void check_finish(void) {
             "fed", "", 0);
         wants(escape_stream_filter_finish(&filter) == ESCAPE_STREAM_DONE, "ended", "", 0);
         wants(
-            escape_stream_filter_text(&filter, 0, out, sizeof out) == strlen(back) &&
+            escape_stream_filter_output(&filter, 0, out, sizeof out) == strlen(back) &&
                 memcmp(out, back, strlen(back)) == 0,
             "what takes back", "", 0);
         wants(escape_stream_filter_finish(&filter) == ESCAPE_STREAM_DONE, "ended twice", "", 0);
         wants(
-            escape_stream_filter_text(&filter, 0, out, sizeof out) == 0, "nothing to take back", "",
-            0);
+            escape_stream_filter_output(&filter, 0, out, sizeof out) == 0, "nothing to take back",
+            "", 0);
     }
     wants(
         escape_stream_filter_feed(&filter, (const uint8_t *)stream, strlen(stream)) ==

@@ -14,11 +14,12 @@ int main(void)
         if (escape_stream_filter_feed(&filter, bytes, length) != ESCAPE_STREAM_DONE)
             return 1;
         for (size_t from = 0;
-             (count = escape_stream_filter_text(&filter, from, out, sizeof out)) > 0; from += count)
+             (count = escape_stream_filter_output(&filter, from, out, sizeof out)) > 0;
+             from += count)
             fwrite(out, 1, count, stdout);
     }
     if (escape_stream_filter_finish(&filter) == ESCAPE_STREAM_DONE) {
-        count = escape_stream_filter_text(&filter, 0, out, sizeof out);
+        count = escape_stream_filter_output(&filter, 0, out, sizeof out);
         fwrite(out, 1, count, stdout);
     }
     escape_stream_filter_end(&filter);

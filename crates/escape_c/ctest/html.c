@@ -12,8 +12,8 @@
  */
 #define PROGRAM "html"
 #define IN_CHUNKS escape_stream_html
-#define ADDED escape_stream_html_text
-#include "added.h"
+#define OUTPUT escape_stream_html_output
+#include "output.h"
 
 static const char STREAM[] =
     "<i>\x1b[1;32mok\nx\x1b]8;;https://a/"
@@ -100,26 +100,27 @@ static void check_states(void) {
     wants(
         escape_stream_html_finish(&page) == ESCAPE_STREAM_NOT_BEGUN, "ended before it began", "",
         0);
-    wants(escape_stream_html_text(&page, 0, out, 8) == 0, "a text before it began", "", 0);
+    wants(escape_stream_html_output(&page, 0, out, 8) == 0, "a text before it began", "", 0);
     for (int i = 0; i < 3; i++) {
         wants(
             escape_stream_html_begin(&page, false, false, LIMIT) == ESCAPE_STREAM_DONE,
             "begun again", "", 0);
         wants(
-            escape_stream_html_text(&page, 0, out, 8) == 0, "a text before the first chunk", "", 0);
+            escape_stream_html_output(&page, 0, out, 8) == 0, "a text before the first chunk", "",
+            0);
         wants(escape_stream_html_feed(&page, bytes, 5) == ESCAPE_STREAM_DONE, "fed", "", 0);
         wants(
-            escape_stream_html_text(&page, 0, out, sizeof out) == 23 &&
+            escape_stream_html_output(&page, 0, out, sizeof out) == 23 &&
                 memcmp(out, "<span class=\"es-bold\">a", 23) == 0,
             "its text", "", 0);
     }
     wants(escape_stream_html_finish(&page) == ESCAPE_STREAM_DONE, "ended", "", 0);
     wants(
-        escape_stream_html_text(&page, 0, out, sizeof out) == 7 && memcmp(out, "</span>", 7) == 0,
+        escape_stream_html_output(&page, 0, out, sizeof out) == 7 && memcmp(out, "</span>", 7) == 0,
         "what closes it", "", 0);
     wants(escape_stream_html_finish(&page) == ESCAPE_STREAM_DONE, "ended twice", "", 0);
     wants(
-        escape_stream_html_text(&page, 0, out, sizeof out) == 7, "what closes it, once more", "",
+        escape_stream_html_output(&page, 0, out, sizeof out) == 7, "what closes it, once more", "",
         0);
     wants(
         escape_stream_html_feed(&page, bytes, 5) == ESCAPE_STREAM_NOT_BEGUN, "fed after the end",

@@ -16,7 +16,7 @@ int main(void)
         if ((length > 0 ? escape_stream_sanitizer_feed(&log, bytes, length)
                         : escape_stream_sanitizer_finish(&log)) != ESCAPE_STREAM_DONE)
             return 1;
-        for (size_t at = 0; (count = escape_stream_sanitizer_text(&log, at, out, sizeof out)) > 0;
+        for (size_t at = 0; (count = escape_stream_sanitizer_output(&log, at, out, sizeof out)) > 0;
              at += count)
             fwrite(out, 1, count, stdout);
     } while (length > 0);

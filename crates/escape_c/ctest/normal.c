@@ -12,8 +12,8 @@
  */
 #define PROGRAM "normal"
 #define IN_CHUNKS escape_stream_normaliser
-#define ADDED escape_stream_normal_text
-#include "added.h"
+#define OUTPUT escape_stream_normal_output
+#include "output.h"
 #include "streams.h"
 
 /* The stream in chunks of this size. Returns the status; the text is the beginning of what is
@@ -80,18 +80,19 @@ static void check_states(void) {
     wants(
         escape_stream_normal_finish(&it) == ESCAPE_STREAM_NOT_BEGUN, "ended before it began", "",
         0);
-    wants(escape_stream_normal_text(&it, 0, out, 8) == 0, "a text before it began", "", 0);
+    wants(escape_stream_normal_output(&it, 0, out, 8) == 0, "a text before it began", "", 0);
     for (int i = 0; i < 3; i++) {
         wants(escape_stream_normal_begin(&it, LIMIT) == ESCAPE_STREAM_DONE, "begun again", "", 0);
         wants(
-            escape_stream_normal_text(&it, 0, out, 8) == 0, "a text before the first chunk", "", 0);
+            escape_stream_normal_output(&it, 0, out, 8) == 0, "a text before the first chunk", "",
+            0);
         wants(escape_stream_normal_feed(&it, bytes, 3) == ESCAPE_STREAM_DONE, "fed", "", 0);
         wants(
-            escape_stream_normal_text(&it, 0, out, 8) == 3 && memcmp(out, "\xef\xbf\xbd", 3) == 0,
+            escape_stream_normal_output(&it, 0, out, 8) == 3 && memcmp(out, "\xef\xbf\xbd", 3) == 0,
             "its text", "", 0);
         wants(
-            escape_stream_normal_text(&it, 2, out, 8) == 1 && out[0] == 0xbd, "its text once more",
-            "", 0);
+            escape_stream_normal_output(&it, 2, out, 8) == 1 && out[0] == 0xbd,
+            "its text once more", "", 0);
     }
     escape_stream_normal_end(&it);
     escape_stream_normal_end(&it);
@@ -107,10 +108,10 @@ static void check_finish(void) {
     wants(
         escape_stream_normal_feed(&it, (const uint8_t *)"\x1b]2;t\x1b\\", 7) == ESCAPE_STREAM_DONE,
         "fed", "", 0);
-    wants(escape_stream_normal_text(&it, 0, out, sizeof out) == 7, "the title", "", 0);
+    wants(escape_stream_normal_output(&it, 0, out, sizeof out) == 7, "the title", "", 0);
     for (int i = 0; i < 2; i++)
         wants(escape_stream_normal_finish(&it) == ESCAPE_STREAM_DONE, "ended", "", 0);
-    wants(escape_stream_normal_text(&it, 0, out, sizeof out) == 0, "a text of the end", "", 0);
+    wants(escape_stream_normal_output(&it, 0, out, sizeof out) == 0, "a text of the end", "", 0);
     wants(
         escape_stream_normal_feed(
             &it,
@@ -119,7 +120,7 @@ static void check_finish(void) {
             12) == ESCAPE_STREAM_DONE,
         "fed", "", 0);
     wants(
-        escape_stream_normal_text(&it, 0, out, sizeof out) == 3 && memcmp(out, "\x1b\\c", 3) == 0,
+        escape_stream_normal_output(&it, 0, out, sizeof out) == 3 && memcmp(out, "\x1b\\c", 3) == 0,
         "past the limit", "", 0);
     escape_stream_normal_end(&it);
 }

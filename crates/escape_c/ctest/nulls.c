@@ -95,13 +95,13 @@ static uint64_t in_chunks(const uint8_t *none, uint8_t *out)
     for (size_t length = 0; length <= sizeof bytes; length += 3) {
         const uint8_t *chunk = length == 0 ? none : bytes;
         sum = sum * 31 + escape_stream_filter_feed(&filter, chunk, length);
-        sum = sum * 31 + escape_stream_filter_text(&filter, 0, out, 0);
+        sum = sum * 31 + escape_stream_filter_output(&filter, 0, out, 0);
         sum = sum * 31 + escape_stream_sanitizer_feed(&log, chunk, length);
-        sum = sum * 31 + escape_stream_sanitizer_text(&log, 0, out, 0);
+        sum = sum * 31 + escape_stream_sanitizer_output(&log, 0, out, 0);
         sum = sum * 31 + escape_stream_html_feed(&page, chunk, length);
-        sum = sum * 31 + escape_stream_html_text(&page, 0, out, 0);
+        sum = sum * 31 + escape_stream_html_output(&page, 0, out, 0);
         sum = sum * 31 + escape_stream_normal_feed(&form, chunk, length);
-        sum = sum * 31 + escape_stream_normal_text(&form, 0, out, 0);
+        sum = sum * 31 + escape_stream_normal_output(&form, 0, out, 0);
     }
     escape_stream_filter_end(&filter);
     escape_stream_sanitizer_end(&log);

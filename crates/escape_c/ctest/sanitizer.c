@@ -14,8 +14,8 @@
  */
 #define PROGRAM "sanitizer"
 #define IN_CHUNKS escape_stream_sanitizer
-#define ADDED escape_stream_sanitizer_text
-#include "added.h"
+#define OUTPUT escape_stream_sanitizer_output
+#include "output.h"
 #include "streams.h"
 
 static const struct escape_stream_sanitizer_options INIT = ESCAPE_STREAM_SANITIZER_OPTIONS_INIT;
@@ -335,16 +335,17 @@ static void check_states(void) {
         escape_stream_sanitizer_account(&it, &account) == ESCAPE_STREAM_NOT_BEGUN &&
             is_junk(&account, sizeof account),
         "told before it began", "", 0);
-    wants(escape_stream_sanitizer_text(&it, 0, out, 8) == 0, "a text before it began", "", 0);
+    wants(escape_stream_sanitizer_output(&it, 0, out, 8) == 0, "a text before it began", "", 0);
     for (int i = 0; i < 3; i++) {
         wants(
             escape_stream_sanitizer_begin(&it, &INIT) == ESCAPE_STREAM_DONE, "begun again", "", 0);
         wants(
-            escape_stream_sanitizer_text(&it, 0, out, 8) == 0, "a text before the first chunk", "",
-            0);
+            escape_stream_sanitizer_output(&it, 0, out, 8) == 0, "a text before the first chunk",
+            "", 0);
         wants(escape_stream_sanitizer_feed(&it, bytes, 3) == ESCAPE_STREAM_DONE, "fed", "", 0);
         wants(
-            escape_stream_sanitizer_text(&it, 0, out, 8) == 1 && out[0] == 'a', "its text", "", 0);
+            escape_stream_sanitizer_output(&it, 0, out, 8) == 1 && out[0] == 'a', "its text", "",
+            0);
     }
     wants(escape_stream_sanitizer_finish(&it) == ESCAPE_STREAM_DONE, "ended", "", 0);
     wants(

@@ -221,7 +221,7 @@ without_end(uint32_t policy, size_t limit, struct bytes stream, struct bytes tex
         escape_stream_filter_feed(&filter, stream.at, stream.length) != ESCAPE_STREAM_DONE ||
         escape_stream_filter_finish(&filter) != ESCAPE_STREAM_DONE)
         differs("another status of a filter in chunks", policy);
-    length = escape_stream_filter_text(&filter, 0, end, text.length + 1);
+    length = escape_stream_filter_output(&filter, 0, end, text.length + 1);
     if (length > text.length || memcmp(text.at + text.length - length, end, length) != 0)
         differs("another end", length);
     else

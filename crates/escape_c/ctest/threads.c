@@ -36,10 +36,10 @@ static void add_texts(struct work *work)
         out[i] = work->out[i] + work->length[i];
         room[i] = ROOM - work->length[i];
     }
-    work->length[0] += escape_stream_filter_text(&work->filter, 0, out[0], room[0]);
-    work->length[1] += escape_stream_sanitizer_text(&work->log, 0, out[1], room[1]);
-    work->length[2] += escape_stream_html_text(&work->page, 0, out[2], room[2]);
-    work->length[3] += escape_stream_normal_text(&work->form, 0, out[3], room[3]);
+    work->length[0] += escape_stream_filter_output(&work->filter, 0, out[0], room[0]);
+    work->length[1] += escape_stream_sanitizer_output(&work->log, 0, out[1], room[1]);
+    work->length[2] += escape_stream_html_output(&work->page, 0, out[2], room[2]);
+    work->length[3] += escape_stream_normal_output(&work->form, 0, out[3], room[3]);
 }
 
 static void begin(struct work *work)

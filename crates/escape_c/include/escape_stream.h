@@ -235,7 +235,7 @@ uint32_t escape_stream_filter_begin(
     struct escape_stream_filter_state *filter, uint32_t policy, size_t limit);
 
 /*
- * Takes the next chunk of the stream, in whatever chunks it comes. escape_stream_filter_text then
+ * Takes the next chunk of the stream, in whatever chunks it comes. escape_stream_filter_output then
  * gives the text that it adds; that of the chunk before is gone. The texts of all chunks, one after
  * another, are the output of escape_stream_filter for the chunks one after another. A sequence that
  * the end of the stream cuts adds nothing.
@@ -249,8 +249,8 @@ uint32_t escape_stream_filter_feed(
 
 /*
  * Ends the stream, and begins the next, within the same limit and by the same policy.
- * escape_stream_filter_text then gives the text that takes back the changes that the stream left at
- * a terminal: nothing if it left none, and else the ends of renditions and of a link, and by the
+ * escape_stream_filter_output then gives the text that takes back the changes that the stream left
+ * at a terminal: nothing if it left none, and else the ends of renditions and of a link, and by the
  * policies that admit more the main screen, the margins, the cursor and the other modes of the
  * display. An unfinished sequence is dropped.
  *
@@ -274,18 +274,18 @@ uint32_t escape_stream_filter_finish(struct escape_stream_filter_state *filter);
  *     while (status == ESCAPE_STREAM_DONE && (length = fread(bytes, 1, sizeof bytes, stdin)) > 0) {
  *         status = escape_stream_filter_feed(&filter, bytes, length);
  *         for (size_t from = 0;
- *              (count = escape_stream_filter_text(&filter, from, out, sizeof out)) > 0;
+ *              (count = escape_stream_filter_output(&filter, from, out, sizeof out)) > 0;
  *              from += count)
  *             fwrite(out, 1, count, stdout);
  *     }
  *     if (escape_stream_filter_finish(&filter) == ESCAPE_STREAM_DONE)
  *         for (size_t from = 0;
- *              (count = escape_stream_filter_text(&filter, from, out, sizeof out)) > 0;
+ *              (count = escape_stream_filter_output(&filter, from, out, sizeof out)) > 0;
  *              from += count)
  *             fwrite(out, 1, count, stdout);
  *     escape_stream_filter_end(&filter);
  */
-size_t escape_stream_filter_text(
+size_t escape_stream_filter_output(
     struct escape_stream_filter_state *filter, size_t from, uint8_t *out, size_t capacity);
 
 /* Ends a filter, and gives back what it took. One that is not begun stays so. */
@@ -442,7 +442,7 @@ uint32_t escape_stream_sanitizer_begin(struct escape_stream_sanitizer *sanitizer
                                        const struct escape_stream_sanitizer_options *options);
 
 /*
- * Takes the next chunk of the stream, in whatever chunks it comes. escape_stream_sanitizer_text
+ * Takes the next chunk of the stream, in whatever chunks it comes. escape_stream_sanitizer_output
  * then gives the text that it adds; that of the chunk before is gone. The texts of all chunks and
  * of the end, one after another, are the output of `escfilter`.
  *
@@ -458,7 +458,7 @@ uint32_t escape_stream_sanitizer_feed(struct escape_stream_sanitizer *sanitizer,
                                       const uint8_t *bytes, size_t length);
 
 /*
- * Ends the stream. escape_stream_sanitizer_text then gives the text that this adds: an unfinished
+ * Ends the stream. escape_stream_sanitizer_output then gives the text that this adds: an unfinished
  * sequence, as far as it is shown, the text that takes back the changes that the stream left at a
  * terminal, and the rows that are left. The account is then that of the whole stream.
  *
@@ -468,10 +468,10 @@ uint32_t escape_stream_sanitizer_finish(struct escape_stream_sanitizer *sanitize
 
 /*
  * Writes the text that the last chunk or the end of the stream added, from its byte `from` on, to
- * the beginning of `out`, as escape_stream_filter_text does.
+ * the beginning of `out`, as escape_stream_filter_output does.
  */
-size_t escape_stream_sanitizer_text(struct escape_stream_sanitizer *sanitizer, size_t from,
-                                    uint8_t *out, size_t capacity);
+size_t escape_stream_sanitizer_output(struct escape_stream_sanitizer *sanitizer, size_t from,
+                                      uint8_t *out, size_t capacity);
 
 /* The fates of the bytes of a stream: how many had each, in UTF-8 if an encoding has others. */
 struct escape_stream_account {
@@ -505,7 +505,8 @@ struct escape_stream_account {
  *         status = length > 0 ? escape_stream_sanitizer_feed(&log, bytes, length)
  *                             : escape_stream_sanitizer_finish(&log);
  *         for (size_t at = 0;
- *              (count = escape_stream_sanitizer_text(&log, at, out, sizeof out)) > 0; at += count)
+ *              (count = escape_stream_sanitizer_output(&log, at, out, sizeof out)) > 0;
+ *              at += count)
  *             fwrite(out, 1, count, stdout);
  *         if (length == 0)
  *             break;
@@ -551,7 +552,7 @@ uint32_t escape_stream_html_begin(
     struct escape_stream_html *page, bool per_line, bool is_inline, size_t limit);
 
 /*
- * Takes the next chunk of the stream. escape_stream_html_text then gives the text that it adds to
+ * Takes the next chunk of the stream. escape_stream_html_output then gives the text that it adds to
  * the page; that of the chunk before is gone.
  *
  * ESCAPE_STREAM_NO_MEMORY: the page was given back. The texts before it are the beginning of the
@@ -562,7 +563,7 @@ uint32_t escape_stream_html_feed(
     struct escape_stream_html *page, const uint8_t *bytes, size_t length);
 
 /*
- * Ends the stream. escape_stream_html_text then gives the text that closes the open tags: with it
+ * Ends the stream. escape_stream_html_output then gives the text that closes the open tags: with it
  * the texts of all chunks, one after another, are a page, in which each tag is closed. It takes no
  * memory.
  *
@@ -572,9 +573,9 @@ uint32_t escape_stream_html_finish(struct escape_stream_html *page);
 
 /*
  * Writes the text that the last chunk or the end of the stream added, from its byte `from` on, to
- * the beginning of `out`, as escape_stream_filter_text does.
+ * the beginning of `out`, as escape_stream_filter_output does.
  */
-size_t escape_stream_html_text(
+size_t escape_stream_html_output(
     struct escape_stream_html *page, size_t from, uint8_t *out, size_t capacity);
 
 /* Gives back what a page took. One that is not begun stays so. */
@@ -602,7 +603,7 @@ struct escape_stream_normaliser {
 uint32_t escape_stream_normal_begin(struct escape_stream_normaliser *normaliser, size_t limit);
 
 /*
- * Takes the next chunk of the stream, in whatever chunks it comes. escape_stream_normal_text then
+ * Takes the next chunk of the stream, in whatever chunks it comes. escape_stream_normal_output then
  * gives the text that it adds to the normal form; that of the chunk before is gone. The texts of
  * all chunks, one after another, are the output of escape_stream_normal for the chunks one after
  * another, if no string is longer than the limit. If the stream ends inside a sequence, only its
@@ -617,7 +618,7 @@ uint32_t escape_stream_normal_feed(
 
 /*
  * Ends the stream, and begins the next, within the same limit. The end adds nothing to the normal
- * form, so the text that escape_stream_normal_text gives is then empty. An unfinished sequence is
+ * form, so the text that escape_stream_normal_output gives is then empty. An unfinished sequence is
  * dropped. It takes no memory.
  *
  * ESCAPE_STREAM_NOT_BEGUN is the only other status but ESCAPE_STREAM_DONE.
@@ -626,7 +627,7 @@ uint32_t escape_stream_normal_finish(struct escape_stream_normaliser *normaliser
 
 /*
  * Writes the text that the last chunk added, from its byte `from` on, to the beginning of `out`, as
- * escape_stream_filter_text does.
+ * escape_stream_filter_output does.
  *
  * Example: the normal form of standard input, as it comes.
  *
@@ -637,13 +638,13 @@ uint32_t escape_stream_normal_finish(struct escape_stream_normaliser *normaliser
  *     while (status == ESCAPE_STREAM_DONE && (length = fread(bytes, 1, sizeof bytes, stdin)) > 0) {
  *         status = escape_stream_normal_feed(&normaliser, bytes, length);
  *         for (size_t from = 0;
- *              (count = escape_stream_normal_text(&normaliser, from, out, sizeof out)) > 0;
+ *              (count = escape_stream_normal_output(&normaliser, from, out, sizeof out)) > 0;
  *              from += count)
  *             fwrite(out, 1, count, stdout);
  *     }
  *     escape_stream_normal_end(&normaliser);
  */
-size_t escape_stream_normal_text(
+size_t escape_stream_normal_output(
     struct escape_stream_normaliser *normaliser, size_t from, uint8_t *out, size_t capacity);
 
 /* Ends a normaliser, and gives back what it took. One that is not begun stays so. */

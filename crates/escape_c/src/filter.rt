@@ -59,7 +59,7 @@ pub extern "C" fn escape_stream_filter_begin(
 }
 
 /// Takes the next chunk of the stream. The text that it adds to the text of the stream is then the
-/// text that [`escape_stream_filter_text`] gives.
+/// text that [`escape_stream_filter_output`] gives.
 ///
 /// `NO_MEMORY` says that a request for memory was refused: the filter has ended, and its memory was
 /// given back. `NOT_BEGUN` says that it had not begun, or had ended.
@@ -83,7 +83,7 @@ pub extern "C" fn escape_stream_filter_feed(
 
 /// Ends the stream, and begins the next, within the same limit and by the same policy. The text
 /// that undoes the changes that the stream left at a terminal, as [`Filter::finish`] says, is then
-/// the text that [`escape_stream_filter_text`] gives. An unfinished segment is dropped.
+/// the text that [`escape_stream_filter_output`] gives. An unfinished segment is dropped.
 ///
 /// `NO_MEMORY` says that a request for memory was refused: the filter has ended, and its memory was
 /// given back. `NOT_BEGUN` says that it had not begun, or had ended.
@@ -103,7 +103,7 @@ pub extern "C" fn escape_stream_filter_finish(alloc: Global, filter: &mut InChun
 /// Copies the text that the last call added, from its byte `from` on, to the beginning of `out`,
 /// as much as fits, and leaves the rest of `out` as it is. Returns how many bytes these are.
 #[unsafe(no_mangle)]
-pub extern "C" fn escape_stream_filter_text(
+pub extern "C" fn escape_stream_filter_output(
     alloc: Global,
     filter: &mut InChunks,
     from: usize,
@@ -112,7 +112,7 @@ pub extern "C" fn escape_stream_filter_text(
     ensures copied { Copies (text_of filter.old) from out.old out.new result }
     ensures kept { Stays filter.old filter.new }
 {
-    filter_chunks::filter_text(alloc, filter, from, out)
+    filter_chunks::filter_output(alloc, filter, from, out)
 }
 
 /// Ends a filter, and gives its memory back. One that is not begun stays so.

@@ -33,7 +33,7 @@ pub extern "C" fn escape_stream_html_begin(
 }
 
 /// Takes the next chunk of the stream. The HTML that it adds to the page is then the text that
-/// [`escape_stream_html_text`] gives.
+/// [`escape_stream_html_output`] gives.
 ///
 /// `NO_MEMORY` says that a request for memory was refused: the page was given back. `NOT_BEGUN`
 /// says that it had not begun, or that its stream had ended; it was given back too.
@@ -50,7 +50,7 @@ pub extern "C" fn escape_stream_html_feed(alloc: Global, page: &mut InChunks, by
 }
 
 /// Ends the stream. The tags that close those that are open are then the text that
-/// [`escape_stream_html_text`] gives: with it, the texts of all chunks, one after another, are a
+/// [`escape_stream_html_output`] gives: with it, the texts of all chunks, one after another, are a
 /// page. It takes no memory. `NOT_BEGUN` says that the page had not begun.
 #[unsafe(no_mangle)]
 pub extern "C" fn escape_stream_html_finish(alloc: Global, page: &mut InChunks) -> u32
@@ -65,7 +65,7 @@ pub extern "C" fn escape_stream_html_finish(alloc: Global, page: &mut InChunks) 
 /// Copies the text that the last call added, from its byte `from` on, to the beginning of `out`,
 /// as much as fits, and leaves the rest of `out` as it is. Returns how many bytes these are.
 #[unsafe(no_mangle)]
-pub extern "C" fn escape_stream_html_text(
+pub extern "C" fn escape_stream_html_output(
     alloc: Global,
     page: &mut InChunks,
     from: usize,
@@ -74,7 +74,7 @@ pub extern "C" fn escape_stream_html_text(
     ensures copied { Copies (text_of page.old) from out.old out.new result }
     ensures kept { Stays page.old page.new }
 {
-    page_chunks::html_text(alloc, page, from, out)
+    page_chunks::html_output(alloc, page, from, out)
 }
 
 /// Gives back the memory of a page. One that is not begun stays so.

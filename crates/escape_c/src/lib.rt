@@ -46,19 +46,19 @@ pub use esc_calls::{
 };
 pub use filter::{
     escape_stream_filter, escape_stream_filter_begin, escape_stream_filter_end,
-    escape_stream_filter_feed, escape_stream_filter_finish, escape_stream_filter_text,
+    escape_stream_filter_feed, escape_stream_filter_finish, escape_stream_filter_output,
 };
 pub use function::{
     escape_stream_control_function, escape_stream_escape_function, escape_stream_function,
 };
 pub use html::{
     escape_stream_html_begin, escape_stream_html_end, escape_stream_html_feed,
-    escape_stream_html_finish, escape_stream_html_text,
+    escape_stream_html_finish, escape_stream_html_output,
 };
 pub use normal::{
     escape_stream_is_normal, escape_stream_normal, escape_stream_normal_begin,
     escape_stream_normal_end, escape_stream_normal_feed, escape_stream_normal_finish,
-    escape_stream_normal_text,
+    escape_stream_normal_output,
 };
 pub use read::{
     escape_stream_read_kitty, escape_stream_read_osc, escape_stream_read_sixel,
@@ -66,7 +66,7 @@ pub use read::{
 };
 pub use sanitizer::{
     escape_stream_sanitizer_account, escape_stream_sanitizer_begin, escape_stream_sanitizer_end,
-    escape_stream_sanitizer_feed, escape_stream_sanitizer_finish, escape_stream_sanitizer_text,
+    escape_stream_sanitizer_feed, escape_stream_sanitizer_finish, escape_stream_sanitizer_output,
 };
 pub use screen::{
     escape_stream_screen_begin, escape_stream_screen_cells, escape_stream_screen_changed,

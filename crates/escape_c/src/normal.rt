@@ -64,7 +64,7 @@ pub extern "C" fn escape_stream_normal_begin(
 }
 
 /// Takes the next chunk of the stream. The text that it adds to the normal form of the stream is
-/// then the text that [`escape_stream_normal_text`] gives.
+/// then the text that [`escape_stream_normal_output`] gives.
 ///
 /// `NO_MEMORY` says that a request for memory was refused: the normaliser has ended, and its memory
 /// was given back. `NOT_BEGUN` says that it had not begun, or had ended.
@@ -88,8 +88,8 @@ pub extern "C" fn escape_stream_normal_feed(
 }
 
 /// Ends the stream, and begins the next, within the same limit. The end adds nothing: the text that
-/// [`escape_stream_normal_text`] gives is then empty. An unfinished segment is dropped. It takes no
-/// memory. `NOT_BEGUN` says that the normaliser had not begun, or had ended.
+/// [`escape_stream_normal_output`] gives is then empty. An unfinished segment is dropped. It takes
+/// no memory. `NOT_BEGUN` says that the normaliser had not begun, or had ended.
 #[unsafe(no_mangle)]
 pub extern "C" fn escape_stream_normal_finish(alloc: Global, normaliser: &mut InChunks) -> u32
     ensures finished { (limit : ℕ) (s : List ℕ) → NormaliserHasConsumed limit s normaliser.old
@@ -103,7 +103,7 @@ pub extern "C" fn escape_stream_normal_finish(alloc: Global, normaliser: &mut In
 /// Copies the text that the last call added, from its byte `from` on, to the beginning of `out`,
 /// as much as fits, and leaves the rest of `out` as it is. Returns how many bytes these are.
 #[unsafe(no_mangle)]
-pub extern "C" fn escape_stream_normal_text(
+pub extern "C" fn escape_stream_normal_output(
     alloc: Global,
     normaliser: &mut InChunks,
     from: usize,
@@ -112,7 +112,7 @@ pub extern "C" fn escape_stream_normal_text(
     ensures copied { Copies (text_of normaliser.old) from out.old out.new result }
     ensures kept { Stays normaliser.old normaliser.new }
 {
-    normal_chunks::normal_text(alloc, normaliser, from, out)
+    normal_chunks::normal_output(alloc, normaliser, from, out)
 }
 
 /// Ends a normaliser, and gives its memory back. One that is not begun stays so.

@@ -38,7 +38,7 @@ pub extern "C" fn escape_stream_sanitizer_begin(
 }
 
 /// Takes the next chunk of the stream. The text that it adds to the text of the stream is then the
-/// text that [`escape_stream_sanitizer_text`] gives.
+/// text that [`escape_stream_sanitizer_output`] gives.
 ///
 /// `NO_MEMORY` says that a request for memory was refused: the sanitizer has ended, and its memory
 /// was given back. `NOT_BEGUN` says that it had not begun, or that its stream had ended; it was
@@ -59,8 +59,8 @@ pub extern "C" fn escape_stream_sanitizer_feed(
     sanitizer_chunks::sanitizer_feed(alloc, sanitizer, bytes)
 }
 
-/// Ends the stream. The text that this adds is then the text that [`escape_stream_sanitizer_text`]
-/// gives, and the account is that of the whole stream.
+/// Ends the stream. The text that this adds is then the text that
+/// [`escape_stream_sanitizer_output`] gives, and the account is that of the whole stream.
 ///
 /// The statuses are those of [`escape_stream_sanitizer_feed`].
 #[unsafe(no_mangle)]
@@ -78,7 +78,7 @@ pub extern "C" fn escape_stream_sanitizer_finish(alloc: Global, sanitizer: &mut 
 /// Copies the text that the last call added, from its byte `from` on, to the beginning of `out`,
 /// as much as fits, and leaves the rest of `out` as it is. Returns how many bytes these are.
 #[unsafe(no_mangle)]
-pub extern "C" fn escape_stream_sanitizer_text(
+pub extern "C" fn escape_stream_sanitizer_output(
     alloc: Global,
     sanitizer: &mut InChunks,
     from: usize,
@@ -87,7 +87,7 @@ pub extern "C" fn escape_stream_sanitizer_text(
     ensures copied { Copies (text_of sanitizer.old) from out.old out.new result }
     ensures kept { Stays sanitizer.old sanitizer.new }
 {
-    sanitizer_chunks::sanitizer_text(alloc, sanitizer, from, out)
+    sanitizer_chunks::sanitizer_output(alloc, sanitizer, from, out)
 }
 
 /// Writes to `account` the account of the bytes of the stream: of those of the lines, or of the

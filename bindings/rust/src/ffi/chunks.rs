@@ -7,7 +7,7 @@ extern "C" {
     fn escape_stream_filter_begin(filter: *mut Filter, policy: u32, limit: usize) -> u32;
     fn escape_stream_filter_feed(filter: *mut Filter, bytes: *const u8, length: usize) -> u32;
     fn escape_stream_filter_finish(filter: *mut Filter) -> u32;
-    fn escape_stream_filter_text(
+    fn escape_stream_filter_output(
         filter: *mut Filter,
         from: usize,
         out: *mut u8,
@@ -22,7 +22,7 @@ extern "C" {
     ) -> u32;
     fn escape_stream_html_feed(page: *mut Page, bytes: *const u8, length: usize) -> u32;
     fn escape_stream_html_finish(page: *mut Page) -> u32;
-    fn escape_stream_html_text(
+    fn escape_stream_html_output(
         page: *mut Page,
         from: usize,
         out: *mut u8,
@@ -36,7 +36,7 @@ extern "C" {
         length: usize,
     ) -> u32;
     fn escape_stream_normal_finish(normaliser: *mut Normaliser) -> u32;
-    fn escape_stream_normal_text(
+    fn escape_stream_normal_output(
         normaliser: *mut Normaliser,
         from: usize,
         out: *mut u8,
@@ -53,7 +53,7 @@ extern "C" {
         length: usize,
     ) -> u32;
     fn escape_stream_sanitizer_finish(sanitizer: *mut Sanitizer) -> u32;
-    fn escape_stream_sanitizer_text(
+    fn escape_stream_sanitizer_output(
         sanitizer: *mut Sanitizer,
         from: usize,
         out: *mut u8,
@@ -69,7 +69,7 @@ const TOO_MANY_COLUMNS: u32 = 15;
 // The common parts: the struct, whose fields are the library's, and the calls but that
 // which begins it. Its pointee is in use by it alone, since it is never copied.
 macro_rules! in_chunks {
-    ($(#[$doc:meta])* $name:ident, $feed:ident, $finish:ident, $text:ident, $end:ident) => {
+    ($(#[$doc:meta])* $name:ident, $feed:ident, $finish:ident, $output:ident, $end:ident) => {
         $(#[$doc])*
         #[repr(C)]
         #[derive(Debug)]
@@ -113,10 +113,10 @@ macro_rules! in_chunks {
             }
 
             /// Writes the text that the last call added, from a byte of it on, and says how much.
-            pub fn text(&mut self, from: usize, out: &mut [u8]) -> usize {
+            pub fn output(&mut self, from: usize, out: &mut [u8]) -> usize {
                 // SAFETY: as in `begin`. Clause `copied` says what `out` holds, initialized all of
                 // it, and that the count is within it.
-                unsafe { $text(self, from, out.as_mut_ptr(), out.len()) }
+                unsafe { $output(self, from, out.as_mut_ptr(), out.len()) }
             }
 
             /// Gives back its memory.
@@ -133,7 +133,7 @@ in_chunks! {
     Filter,
     escape_stream_filter_feed,
     escape_stream_filter_finish,
-    escape_stream_filter_text,
+    escape_stream_filter_output,
     escape_stream_filter_end
 }
 
@@ -142,7 +142,7 @@ in_chunks! {
     Page,
     escape_stream_html_feed,
     escape_stream_html_finish,
-    escape_stream_html_text,
+    escape_stream_html_output,
     escape_stream_html_end
 }
 
@@ -151,7 +151,7 @@ in_chunks! {
     Normaliser,
     escape_stream_normal_feed,
     escape_stream_normal_finish,
-    escape_stream_normal_text,
+    escape_stream_normal_output,
     escape_stream_normal_end
 }
 
@@ -160,7 +160,7 @@ in_chunks! {
     Sanitizer,
     escape_stream_sanitizer_feed,
     escape_stream_sanitizer_finish,
-    escape_stream_sanitizer_text,
+    escape_stream_sanitizer_output,
     escape_stream_sanitizer_end
 }
 

@@ -1,7 +1,7 @@
 /* SPDX-License-Identifier: MIT */
 /*
  * The text that a call in chunks added. What includes it defines PROGRAM, its name, IN_CHUNKS, the
- * struct of what is in chunks, and ADDED, the call that copies its text.
+ * struct of what is in chunks, and OUTPUT, the call that copies its text.
  */
 #include "memory.h"
 
@@ -13,7 +13,7 @@ static size_t append(struct IN_CHUNKS *it, size_t capacity, uint8_t *text, size_
     size_t count, from = 0;
     do {
         memset(area, JUNK, sizeof area);
-        count = ADDED(it, from, area + 8, capacity);
+        count = OUTPUT(it, from, area + 8, capacity);
         wants(count <= capacity, "more than fits", "", count);
         wants(
             is_junk(area, 8) && is_junk(area + 8 + count, sizeof area - 8 - count),
@@ -22,7 +22,7 @@ static size_t append(struct IN_CHUNKS *it, size_t capacity, uint8_t *text, size_
         length += count;
         from += count;
     } while (count > 0);
-    wants(ADDED(it, from + 5, area, 8) == 0, "a text past its end", "", from);
-    wants(ADDED(it, 0, area, 0) == 0, "a text without room", "", from);
+    wants(OUTPUT(it, from + 5, area, 8) == 0, "a text past its end", "", from);
+    wants(OUTPUT(it, 0, area, 0) == 0, "a text without room", "", from);
     return length;
 }
