@@ -1,5 +1,6 @@
 // SPDX-License-Identifier: MIT
-//! A program over the crate vte: it prints each call. Its Cargo.toml has one line of this project's.
+//! A program over the crate vte: it prints each call. Its Cargo.toml has one line of this
+//! project's.
 use std::io::{self, Read};
 use vte::{Params, Parser, Perform};
 

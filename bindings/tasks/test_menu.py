@@ -1,6 +1,6 @@
 # SPDX-License-Identifier: MIT
-"""Tests a program with a text interface: it runs in a terminal of 30 columns and 5 lines, gets keys,
-and what is on its screen is compared."""
+"""Tests a program with a text interface: it runs in a terminal of 30 columns and 5 lines, gets
+keys, and what is on its screen is compared."""
 
 import fcntl
 import os

@@ -404,9 +404,9 @@ screen_end = _short.escape_stream_screen_end
 screen_end.argtypes = (_screen,)
 screen_end.restype = None
 
-# Many events at one call: the calls and the struct `many` of events.c. It begins with how many bytes
-# were taken, how many words of records, bytes of text and bytes of strings follow, whether it is
-# done, and whether the last string is in the buffer.
+# Many events at one call: the calls and the struct `many` of events.c. It begins with how many
+# bytes were taken, how many words of records, bytes of text and bytes of strings follow, whether it
+# is done, and whether the last string is in the buffer.
 MANY = struct.Struct("6I")
 MANY_WORDS, MANY_TEXT, MANY_SIZE = 16_384, 3 * 32_768 + 16, 300_000
 

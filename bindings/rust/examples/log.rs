@@ -1,5 +1,5 @@
-//! Writes a log from standard input so that it is safe to print, as the program `escfilter` does, and
-//! says how much of it passed.
+//! Writes a log from standard input so that it is safe to print, as the program `escfilter` does,
+//! and says how much of it passed.
 use escape_stream::{Policy, SanitizerOptions, SanitizerWriter};
 use std::io;
 

@@ -2,8 +2,8 @@
 use escape_stream::{Entry, Event, Parser};
 use std::io::{self, Read, Write};
 
-// A rendition has the final byte `m`, and of bytes only `;` and `:` beside its numbers. It is spelled
-// anew, from its numbers.
+// A rendition has the final byte `m`, and of bytes only `;` and `:` beside its numbers. It is
+// spelled anew, from its numbers.
 fn rendition(entries: &[Entry]) -> Option<String> {
     let mut text = String::from("\x1b[");
     for entry in entries {

@@ -1,6 +1,6 @@
 // SPDX-License-Identifier: MIT
-//! The calls of the proved libraries, `crates/escape_c` and `crates/stream_c`. Each block below rests
-//! on contracts there, which the names of clauses point to.
+//! The calls of the proved libraries, `crates/escape_c` and `crates/stream_c`. Each block below
+//! rests on contracts there, which the names of clauses point to.
 //!
 //! The libraries state no `requires`. A caller still owes the promises of its types, and Rust's
 //! types make them too: a slice is initialized and in bounds for the length that goes with its
@@ -72,9 +72,9 @@ const NOT_BEGUN: u32 = 3;
 #[cfg(feature = "oneshot")]
 pub fn normal(bytes: &[u8], out: &mut [u8]) -> Result<usize, Error> {
     let mut needed = 0;
-    // SAFETY: the references are what the types ask for. Clause `written` says what `out` holds after
-    // `DONE`, initialized all of it, clause `needed` what `needed` holds, and `refused` that both are
-    // as they were after any other status.
+    // SAFETY: the references are what the types ask for. Clause `written` says what `out` holds
+    // after `DONE`, initialized all of it, clause `needed` what `needed` holds, and `refused` that
+    // both are as they were after any other status.
     let status = unsafe {
         escape_stream_normal(
             bytes.as_ptr(),
@@ -91,8 +91,8 @@ pub fn normal(bytes: &[u8], out: &mut [u8]) -> Result<usize, Error> {
 #[cfg(feature = "oneshot")]
 pub fn is_normal(bytes: &[u8]) -> Result<bool, Error> {
     let mut answer = false;
-    // SAFETY: the references are what the types ask for. Clause `equal` says which `bool` `answer` is
-    // after `DONE`, and `refused` that it is as it was after any other status.
+    // SAFETY: the references are what the types ask for. Clause `equal` says which `bool` `answer`
+    // is after `DONE`, and `refused` that it is as it was after any other status.
     let status = unsafe { escape_stream_is_normal(bytes.as_ptr(), bytes.len(), &mut answer) };
     done(status, answer)
 }
@@ -101,8 +101,8 @@ pub fn is_normal(bytes: &[u8]) -> Result<bool, Error> {
 #[cfg(feature = "oneshot")]
 pub fn filter(policy: Policy, limit: usize, bytes: &[u8], out: &mut [u8]) -> Result<usize, Error> {
     let mut needed = 0;
-    // SAFETY: as in `normal`, by the clauses `written`, `needed` and `refused` of this call. It takes
-    // any number for a policy: by clause `unknown` one that there is not has a status.
+    // SAFETY: as in `normal`, by the clauses `written`, `needed` and `refused` of this call. It
+    // takes any number for a policy: by clause `unknown` one that there is not has a status.
     let status = unsafe {
         escape_stream_filter(
             number(policy),
@@ -198,8 +198,8 @@ impl Event {
     }
 }
 
-/// A parser. Its fields are the library's. It points to nothing, and the calls speak of the bytes of
-/// its buffer, not of their place: so a copy over a copy of the buffer is a parser too.
+/// A parser. Its fields are the library's. It points to nothing, and the calls speak of the bytes
+/// of its buffer, not of their place: so a copy over a copy of the buffer is a parser too.
 #[derive(Clone)]
 #[repr(C)]
 pub struct Parser {

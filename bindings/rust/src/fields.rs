@@ -1,5 +1,6 @@
 // SPDX-License-Identifier: MIT
-//! The fields of a command or an image, taken one after another. The numbers are those of `escape_stream.h`.
+//! The fields of a command or an image, taken one after another. The numbers are those of
+//! `escape_stream.h`.
 use crate::dcs::SixelData;
 use crate::{Error, ffi, numbered};
 use alloc::vec::Vec;

@@ -5,7 +5,7 @@
 use crate::function::functions;
 
 functions! {
-    /// A control function that a control sequence asks for, by the standards' abbreviation of its name.
+    /// A control function of a control sequence, by the standards' abbreviation.
     ControlFunction;
     ICH, 0x140, "ICH", Screen, "insert characters", "`CSI .. @`: insert characters";
     SL, 0x12040, "SL", Screen, "scroll left", "`CSI .. SP @`: scroll left";
@@ -233,7 +233,7 @@ functions! {
 }
 
 functions! {
-    /// A control function that an escape sequence or a C1 control asks for, by the standards' abbreviation of its name.
+    /// A control function of an escape sequence or a C1 control, by the standards' abbreviation.
     EscapeFunction;
     CZD, 0x121, "CZD", Other, "designate the C0 set", "`ESC !`: designate the C0 set";
     C1D, 0x122, "C1D", Other, "designate the C1 set", "`ESC \"`: designate the C1 set";

@@ -201,8 +201,8 @@ impl Parser {
         Parser::with_limit(1 << 16)
     }
 
-    /// A parser at the beginning of a stream that hands out strings of up to `limit` bytes: texts of
-    /// commands, and parameter bytes of device control strings. It passes over longer ones, and
+    /// A parser at the beginning of a stream that hands out strings of up to `limit` bytes: texts
+    /// of commands, and parameter bytes of device control strings. It passes over longer ones, and
     /// hands out [`Event::LimitPassed`] in the place of each. It takes two bytes for each of the
     /// limit.
     ///

@@ -130,8 +130,8 @@ impl<const OSC_RAW_BUF_SIZE: usize> Default for Parser<OSC_RAW_BUF_SIZE> {
 impl Parser {
     /// A parser at the beginning of a stream that hands out strings of up to 1,048,576 bytes.
     ///
-    /// `vte` hands out longer ones too. The memory grows with a string, as in `vte`, up to two bytes
-    /// for each byte of the limit; it stays for the next string.
+    /// `vte` hands out longer ones too. The memory grows with a string, as in `vte`, up to two
+    /// bytes for each byte of the limit; it stays for the next string.
     pub fn new() -> Parser {
         Parser::default()
     }

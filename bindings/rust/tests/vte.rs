@@ -1,6 +1,6 @@
 // SPDX-License-Identifier: MIT
-//! The calls of the module `vte`: those of version 0.15 of the crate of that name, but for the streams
-//! that docs/EMBEDDING.md lists, and however a stream is cut.
+//! The calls of the module `vte`: those of version 0.15 of the crate of that name, but for the
+//! streams that docs/EMBEDDING.md lists, and however a stream is cut.
 mod streams;
 
 use escape_stream::vte::{Params, Parser, Perform, by_byte};

@@ -57,10 +57,10 @@ struct escape_stream_screen {
 #define ESCAPE_STREAM_SCREEN_INIT {false, NULL}
 
 /*
- * Begins a blank screen of so many columns and rows, where 0 is as 1. It keeps the last `scrollback`
- * rows that are scrolled off the top of the main screen. A screen that was begun before is ended
- * first. It takes memory for two screens, the main and the alternate one, and for the rows
- * that it keeps as they come.
+ * Begins a blank screen of so many columns and rows, where 0 is as 1. It keeps the last
+ * `scrollback` rows that are scrolled off the top of the main screen. A screen that was begun
+ * before is ended first. It takes memory for two screens, the main and the alternate one, and for
+ * the rows that it keeps as they come.
  *
  * ESCAPE_STREAM_DONE or ESCAPE_STREAM_NO_MEMORY.
  */
@@ -210,8 +210,8 @@ uint32_t escape_stream_screen_requests(
 /*
  * Writes for each row of the screen, as many as fit, 1 where its cells are not those that they were
  * at the last call that wrote that row's, and 0 elsewhere; at the first call 1. A caller draws
- * those rows and the cursor again, and all rows if `reversed` changed. The first call takes memory for
- * the cells of those rows.
+ * those rows and the cursor again, and all rows if `reversed` changed. The first call takes memory
+ * for the cells of those rows.
  */
 uint32_t escape_stream_screen_changed(
     struct escape_stream_screen *screen, uint8_t *out, size_t capacity);

@@ -167,8 +167,8 @@ in_chunks! {
 impl Filter {
     /// Begins a stream.
     pub fn begin(&mut self, policy: Policy, limit: usize) -> Result<(), Error> {
-        // SAFETY: the reference is what the type asks for, and the filter is as a call or `ended` left
-        // it: if it is begun, its pointer is one that a call put there.
+        // SAFETY: the reference is what the type asks for, and the filter is as a call or `ended`
+        // left it: if it is begun, its pointer is one that a call put there.
         let status = unsafe { escape_stream_filter_begin(self, number(policy), limit) };
         done(status, ())
     }
@@ -208,8 +208,8 @@ impl Sanitizer {
     /// The account of the stream.
     pub fn account(&mut self) -> Result<Account, Error> {
         let mut account = Account::default();
-        // SAFETY: as in `begin`; the account is what the type asks for. By clause `refused` there is
-        // no other status than these, and the account is as it was after the last.
+        // SAFETY: as in `begin`; the account is what the type asks for. By clause `refused` there
+        // is no other status than these, and the account is as it was after the last.
         match unsafe { escape_stream_sanitizer_account(self, &mut account) } {
             NOT_BEGUN => Err(Error::Failed),
             status => done(status, account),

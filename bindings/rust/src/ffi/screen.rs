@@ -172,8 +172,8 @@ impl Screen {
     /// Writes the cells of a row.
     pub fn cells(&mut self, row: usize, cells: &mut [RawCell]) -> Result<usize, Error> {
         let mut needed = 0;
-        // SAFETY: as in `feed`. Clause `shown` says what `cells` holds after `DONE`, initialized all
-        // of it, and `refused` that it is as it was after any other status.
+        // SAFETY: as in `feed`. Clause `shown` says what `cells` holds after `DONE`, initialized
+        // all of it, and `refused` that it is as it was after any other status.
         let status = unsafe {
             escape_stream_screen_cells(self, row, cells.as_mut_ptr(), cells.len(), &mut needed)
         };

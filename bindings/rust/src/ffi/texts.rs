@@ -92,9 +92,9 @@ const NOTHING_SAID: Said = Said {
 /// Reads the text of a command.
 pub fn read_osc(text: &[u8], fields: &mut [Field], out: &mut [u8]) -> Result<Said, Error> {
     let mut osc = NOTHING_SAID;
-    // SAFETY: the references are what the types ask for. Clause `written` says what `fields` and `out`
-    // hold after `DONE`, initialized all of them, clause `value` what `osc` holds, and `refused` that
-    // all are as they were after any other status.
+    // SAFETY: the references are what the types ask for. Clause `written` says what `fields` and
+    // `out` hold after `DONE`, initialized all of them, clause `value` what `osc` holds, and
+    // `refused` that all are as they were after any other status.
     let status = unsafe {
         escape_stream_read_osc(
             text.as_ptr(),
@@ -218,8 +218,8 @@ pub fn read_sixel(
 ) -> Result<(Sixel, usize), Error> {
     let mut sixel = Sixel::default();
     // SAFETY: the references are what the types ask for. Clause `written` says what `items` holds
-    // after `DONE`, initialized all of it, clause `value` what `sixel` holds, and `refused` that both
-    // are as they were after any other status.
+    // after `DONE`, initialized all of it, clause `value` what `sixel` holds, and `refused` that
+    // both are as they were after any other status.
     let status = unsafe {
         escape_stream_read_sixel(
             params.as_ptr(),

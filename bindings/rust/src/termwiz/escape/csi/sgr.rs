@@ -145,8 +145,8 @@ fn spaced(params: Params<'_>) -> Option<(ColorSpec, Option<Params<'_>>)> {
     Some((ColorSpec::TrueColor(color.into()), rest))
 }
 
-// A colour with `:` between its numbers. A colour space may come before the channels, and what xterm
-// says of tolerance after them.
+// A colour with `:` between its numbers. A colour space may come before the channels, and what
+// xterm says of tolerance after them.
 fn joined(params: Params<'_>) -> Option<ColorSpec> {
     let mut parts: [Params<'_>; 9] = [&[]; 9];
     let mut count = 0;
