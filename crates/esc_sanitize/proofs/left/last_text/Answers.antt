@@ -14,9 +14,9 @@ returns-clause-ended g c = λ z u fed.
     let final = final_of z (values_of A u) in
     let rest = open_of z (values_of A (u ++ t)) in
     let whole = c.in_ok-push_str-2.ensures.bytes
-    ∙ ap (λ x. x ++ c.added-2.result.now) (c.in_ok-push_str.ensures.bytes
-    ∙ ap (λ x. x ++ c.added.result.now) c.new-last.ensures.bytes ∙ c.added.ensures)
-    ∙ ap (λ x. first ++ x) (c.added-2.ensures ∙ m.1) in
+    ∙ ap (λ x. x ++ c.output-2.result.now) (c.in_ok-push_str.ensures.bytes
+    ∙ ap (λ x. x ++ c.output.result.now) c.new-last.ensures.bytes ∙ c.output.ensures)
+    ∙ ap (λ x. first ++ x) (c.output-2.ensures ∙ m.1) in
     ap (λ x. x ++ rest) k.1 ∙ append_assoc final first rest ∙ ap (λ x. final ++ x) (sym whole)
 
 pub returns-clause-fed : goal.returns-clause-fed
