@@ -6,8 +6,8 @@ pub returns-clause-ended : goal.returns-clause-ended
 returns-clause-ended g c = λ m e s h.
     let page = page_text g.row.A.Denot (Some h.0) h.1 s in
     ap (λ f. f s) h.4
-    ∙ ap (λ t. page ++ t) (sym (c.closing-self.ensures.closes h.0 h.1 s h.2))
-    ∙ ap (λ y. y ++ c.closing-self.result.now) (sym (ap (λ f. f s) h.3))
+    ∙ ap (λ t. page ++ t) (sym (c.finish-self.ensures.closes h.0 h.1 s h.2))
+    ∙ ap (λ y. y ++ c.finish-self.result.now) (sym (ap (λ f. f s) h.3))
 
 pub returns-clause-longer : goal.returns-clause-longer
 returns-clause-longer g c = λ m e s h.
