@@ -31,6 +31,7 @@ mod line_writer;
 mod markup;
 mod page;
 mod page_look;
+mod page_tags;
 mod plain;
 mod renditions;
 mod shades;
