@@ -3,6 +3,7 @@ use Rattle.std.specs.Prelude.{ℕ, ◌≡◌, Bool, true, false, List, [], ◌�
 use Rattle.esc_values.specs.declared.csi_param.CsiParam.{CsiParam}
 use Rattle.esc_values.specs.declared.csi_param.CsiParam.TheVariants.{Integer}
 use Rattle.esc_html.specs.Marks.{Pen, function_step, restyles}
+use Rattle.esc_html.specs.Plain.{marking}
 use Rattle.esc_html.specs.declared.renditions.Common.{Common}
 use Rattle.esc_html.specs.declared.renditions.Common.TheVariants as common
 use Rattle.esc_sequences.specs.Csis.{CsiValue, csi_of}
@@ -29,6 +30,7 @@ is_number _ = false
 abbrev pub rendition_by : Common → Rendition
 rendition_by common.Reset = Reset
 rendition_by (common.Color c) = AnsiForeground c
+rendition_by (common.Marked m) = marking m
 
 -- a control sequence of these parameters is one value, which asks for this rendition alone
 abbrev pub AsksFor : List CsiParam → Bool → ℕ → Rendition → Type 0

@@ -28,6 +28,7 @@ mod inline;
 pub mod laws;
 mod layout;
 mod line_writer;
+mod mark;
 mod markup;
 mod page;
 mod page_look;

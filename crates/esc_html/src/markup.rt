@@ -4,12 +4,13 @@ ghost use Rattle.std.specs.Char.{encode_utf8};
 ghost use Rattle.std.specs.List.{flat_map, list_all};
 ghost use Rattle.esc_html.specs.Characters.{is_bare};
 ghost use Rattle.esc_html.specs.PageParts.{escape_text, link, page_part_text, span};
-ghost use Rattle.esc_html.specs.Plain.{colored};
+ghost use Rattle.esc_html.specs.Plain.{colored, marked};
 ghost use Rattle.fallible_alloc.specs.Refusals.{Refused};
 
 use crate::colored::{push_any_span, tag_of};
 use crate::escaping::{push_char, push_escaped};
 use crate::inline::push_inline_span;
+use crate::mark::Mark;
 use crate::writing::push_link;
 use esc_style::Look;
 use std::alloc::{AllocError, Allocator, Global};
@@ -127,6 +128,20 @@ impl<A: Allocator> Markup<A> {
             push_inline_span(&mut self.string, look)
         } else {
             self.push_html(tag_of(color))
+        }
+    }
+
+    /// The same, if the look is this mark and nothing else.
+    #[inline]
+    pub fn push_marked(&mut self, inline: bool, mark: Mark, look: &Look) -> Result<(), AllocError>
+        requires { look.now ≡ marked mark }
+        ensures ok { OnOk result (self.new ≡ self.old ++ page_part_text (span inline look.now)) }
+        ensures refused { OnErr result (Refused A) }
+    {
+        if inline {
+            push_inline_span(&mut self.string, look)
+        } else {
+            self.push_html(mark.tag())
         }
     }
 

@@ -244,6 +244,7 @@ impl<A: Allocator> Page<A> {
         match common {
             Common::Reset => self.look.reset(),
             Common::Color(color) => self.look.color(color),
+            Common::Marked(mark) => self.look.mark(mark),
         }
         Ok(())
     }

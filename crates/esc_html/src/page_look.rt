@@ -2,7 +2,7 @@
 ghost use Rattle.std.specs.Prelude.{◌≡◌, ◌++◌, OnErr, OnOk, true};
 ghost use Rattle.esc_html.specs.PageParts.{html_text, page_part_text, span};
 ghost use Rattle.esc_html.specs.Pages.{span_unless};
-ghost use Rattle.esc_html.specs.Plain.{is_colored, is_colored_alone, is_named, is_of_kind};
+ghost use Rattle.esc_html.specs.Plain.{is_colored, is_colored_alone, is_named, is_of_kind, marking};
 ghost use Rattle.esc_style.specs.Looks.{is_plain, look_by, look_by_all, plain_look};
 ghost use Rattle.esc_style.specs.declared.look.Look.{Look as LookValue};
 ghost use Rattle.fallible_alloc.specs.Refusals.{Refused};
@@ -11,6 +11,7 @@ ghost use Rattle.typed_functions.specs.declared.ansi_color.AnsiColor.{AnsiColor 
 ghost use Rattle.typed_functions.specs.declared.rendition.Rendition.TheVariants.{AnsiForeground};
 
 use crate::colored::is_colored_alone;
+use crate::mark::Mark;
 use crate::markup::Markup;
 use crate::plain::is_plain;
 use esc_style::{Color, Look};
@@ -24,6 +25,8 @@ pub(crate) enum Kind {
     Plain,
     /// That of a colour by its name, and of nothing else.
     Colored,
+    /// That of a mark, and of nothing else.
+    Marked(Mark),
     /// Another one.
     Other,
 }
@@ -56,6 +59,7 @@ impl PageLook {
         match self.kind {
             Kind::Plain => true,
             Kind::Colored => false,
+            Kind::Marked(_) => false,
             Kind::Other => false,
         }
     }
@@ -75,6 +79,15 @@ impl PageLook {
     {
         self.look.foreground = Color::Named(color);
         self.kind = self.kind.colored();
+    }
+
+    /// Takes a mark.
+    #[inline]
+    pub fn mark(&mut self, mark: Mark)
+        ensures { self.new.look ≡ look_by self.old.look (marking mark) }
+    {
+        mark.put_on(&mut self.look);
+        self.kind = self.kind.marked(mark);
     }
 
     /// Takes a rendition.
@@ -104,6 +117,7 @@ impl PageLook {
         }
         match self.kind {
             Kind::Colored => self.open_colored(html, inline),
+            Kind::Marked(mark) => html.push_marked(inline, mark, &self.look),
             Kind::Plain | Kind::Other => html.push_span(inline, &self.look),
         }
     }
@@ -139,6 +153,21 @@ impl Kind {
         match self {
             Kind::Plain => Kind::Colored,
             Kind::Colored => Kind::Colored,
+            Kind::Marked(_) => Kind::Other,
+            Kind::Other => Kind::Other,
+        }
+    }
+
+    // The kind after a mark.
+    #[inline]
+    fn marked(self, mark: Mark) -> Kind
+        ensures { (l : LookValue) → is_of_kind self l ≡ true
+            → is_of_kind result (look_by l (marking mark)) ≡ true }
+    {
+        match self {
+            Kind::Plain => Kind::Marked(mark),
+            Kind::Colored => Kind::Other,
+            Kind::Marked(_) => Kind::Other,
             Kind::Other => Kind::Other,
         }
     }

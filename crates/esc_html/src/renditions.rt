@@ -9,6 +9,7 @@ ghost use Rattle.typed_functions.specs.Functions.{of_csi, value_of};
 ghost use Rattle.typed_functions.specs.Numbers.{numbered};
 ghost use Rattle.typed_functions.specs.Renditions.{byte_of};
 
+use crate::mark::Mark;
 use esc_sequences::Sgr;
 use esc_values::CsiParam;
 use typed_functions::{AnsiColor, Function, Rendition};
@@ -20,6 +21,8 @@ pub(crate) enum Common {
     Reset,
     /// A colour of the characters, by its name.
     Color(AnsiColor),
+    /// A mark.
+    Marked(Mark),
 }
 
 /// The one that a control sequence of these parameters asks for, if it has one number and nothing
@@ -82,6 +85,12 @@ fn common_at(number: u8) -> Option<Common>
 {
     match number {
         0 => Some(Common::Reset),
+        1 => Some(Common::Marked(Mark::Bold)),
+        2 => Some(Common::Marked(Mark::Faint)),
+        3 => Some(Common::Marked(Mark::Italic)),
+        4 => Some(Common::Marked(Mark::Underlined)),
+        7 => Some(Common::Marked(Mark::Inverse)),
+        9 => Some(Common::Marked(Mark::Strikethrough)),
         30..=37 => Some(Common::Color(AnsiColor::at(number - 30))),
         90..=97 => Some(Common::Color(AnsiColor::at(number - 82))),
         _ => None,

@@ -10,5 +10,8 @@ pub returns-in-Colored : goal.returns-in-Colored
 returns-in-Colored c = λ l k h.
     colored_colored l k (subst (λ j. is_of_kind j l ≡ true) c.in-Colored.is h)
 
+pub returns-in-Marked : goal.returns-in-Marked
+returns-in-Marked c = λ l k h. other_colored l k
+
 pub returns-in-Other : goal.returns-in-Other
 returns-in-Other c = λ l k h. other_colored l k
