@@ -2,7 +2,8 @@
 ghost use Rattle.std.specs.Io.{WritesAtMost};
 ghost use Rattle.std.specs.Io.KnownBytes.{WriteAppends};
 
-use memchr::memchr;
+use crate::feeds::line_feeds;
+use memchr::memrchr;
 use std::io;
 use std::io::Write;
 
@@ -35,15 +36,17 @@ impl Lines {
 
     /// These lines and those of more HTML. A line feed is never in a tag.
     pub fn and(self, html: &[u8]) -> Lines {
-        let mut lines = self;
-        let mut rest = html;
-        while let Some(at) = memchr(b'\n', rest) {
-            lines.ended = lines.ended.saturating_add(1);
-            lines.is_open = false;
-            lines.is_tag = false;
-            rest = &rest[at + 1..];
+        match memrchr(b'\n', html) {
+            None => self.with(html),
+            Some(at) => {
+                let lines = Lines {
+                    ended: self.ended.saturating_add(line_feeds(html)),
+                    is_open: false,
+                    is_tag: false,
+                };
+                lines.with(html.get(at.saturating_add(1)..).unwrap_or(&[]))
+            }
         }
-        lines.with(rest)
     }
 
     // These lines, with more of the last one.

@@ -4,6 +4,7 @@
 #![tactic(auto)]
 
 mod converting;
+mod feeds;
 mod heeding;
 mod images;
 mod joining;

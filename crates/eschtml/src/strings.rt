@@ -1,6 +1,7 @@
 //! Strings of a stream that do not end, and so take the text after them from a page.
 ghost use Rattle.std.specs.Prelude.{◌<◌, ◌≤◌, length};
 
+use crate::feeds::line_feeds;
 use esc_decode::{CodePage, Encoding, Mask};
 use esc_frame::{VTActor, VTParser};
 use esc_values::CsiParam;
@@ -14,7 +15,7 @@ const ESC: u8 = 0x1b;
 const NEAR: usize = 16;
 
 // How many bytes are looked at together.
-const BLOCK: usize = 16;
+const BLOCK: usize = 64;
 
 /// The string that is unfinished at the end of a stream.
 #[derive(Clone, Copy)]
@@ -79,7 +80,8 @@ impl Strings {
     // Passes text up to bytes that may open a string, which it begins with; returns its length.
     fn pass(&mut self, bytes: &[u8]) -> usize {
         let at = self.passed(bytes).min(bytes.len());
-        self.count_lines(bytes.get(..at).unwrap_or(bytes));
+        let passed = line_feeds(bytes.get(..at).unwrap_or(bytes));
+        self.feeds = self.feeds.saturating_add(passed);
         let here = bytes.get(at..).unwrap_or(bytes);
         if here.is_empty() {
             return at;
@@ -170,19 +172,6 @@ impl Strings {
         };
         framed.is_ok()
     }
-
-    fn count_lines(&mut self, bytes: &[u8]) {
-        let mut rest = bytes;
-        while rest.len() >= BLOCK {
-            let feeds = u8x16::from_slice(rest).simd_eq(u8x16::splat(b'\n'));
-            let count = feeds.to_bitmask().count_ones();
-            self.feeds = self.feeds.saturating_add(u64::from(count));
-            rest = &rest[BLOCK..];
-        }
-        for byte in rest {
-            self.feeds = self.feeds.saturating_add(u64::from(*byte == b'\n'));
-        }
-    }
 }
 
 // The bytes after the blocks that come first and in which no string opens.
@@ -202,10 +191,10 @@ fn after_clear_blocks(bytes: &[u8]) -> &[u8]
 fn is_clear(bytes: &[u8]) -> bool
     requires { BLOCK < length bytes.now }
 {
-    let here = u8x16::from_slice(bytes);
-    let after = u8x16::from_slice(&bytes[1..]);
-    let escapes = here.simd_eq(u8x16::splat(ESC)) & after.simd_ne(u8x16::splat(b'['));
-    let marks = escapes | here.simd_eq(u8x16::splat(0xc2));
+    let here = u8x64::from_slice(bytes);
+    let after = u8x64::from_slice(&bytes[1..]);
+    let escapes = here.simd_eq(u8x64::splat(ESC)) & after.simd_ne(u8x64::splat(b'['));
+    let marks = escapes | here.simd_eq(u8x64::splat(0xc2));
     marks.to_bitmask() == 0
 }
 
