@@ -186,7 +186,7 @@ pub some_so : {T P : Type 0} (o : Option T) (x y : T) → IfSome o (λ t. (t ≡
 some_so None x y h f = tt
 some_so (Some t) x y (e, p) f = e ∙ sym (f p)
 
-end_bytes : (s : List ℕ) → is_end s ≡ true → s ≡ 0x1b ∷ 0x5c ∷ []
+pub end_bytes : (s : List ℕ) → is_end s ≡ true → s ≡ 0x1b ∷ 0x5c ∷ []
 end_bytes [] h = absurd cc
 end_bytes (a ∷ []) h = absurd cc
 end_bytes (a ∷ c ∷ []) h =
@@ -289,6 +289,10 @@ module _ {A : Type 0} (u : Guard) (limit : ℕ) (admits : Value A → Bool) (b :
       → rule_of l u limit admits b (Escape [] 0x5c) finished ≡ left_as b
   end_by true finished h = rw (h (esc_variant.Code esc_code.StringTerminator)) refl
   end_by false finished h = rw (h (esc_variant.Code esc_code.StringTerminator)) refl
+
+  pub end_left_out : (l : Bool) → ((e : Esc) → admits (esc e) ≡ false)
+      → rule_of l u limit admits b (Escape [] 0x5c) true ≡ left_as b
+  end_left_out l stays = end_by l true stays
 
   pub end_left : (l : Bool) (g : Shape) (gs : List Shape) (s : List ℕ) → AreSegments (g ∷ gs)
       → kind_of g ≡ kinds.Escape → s ≡ bytes_of g → is_end s ≡ true

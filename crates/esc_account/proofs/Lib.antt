@@ -29,3 +29,5 @@ pub mod NewRows
 pub mod Looks
 pub mod Seen
 pub mod LeftCommands
+pub mod PassedSequences
+pub mod Renditions

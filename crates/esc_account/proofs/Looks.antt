@@ -36,7 +36,7 @@ parameter_is b h = (grind (arith, nat_tests), grind (arith, nat_tests))
 prefix_is : (b : ℕ) → is_private_prefix b ≡ true → is_body_byte b ≡ true
 prefix_is b h = grind (arith, nat_tests)
 
-parameters_are : (x : List ℕ) → list_all is_csi_parameter x ≡ true
+pub parameters_are : (x : List ℕ) → list_all is_csi_parameter x ≡ true
     → list_all is_body_byte x ≡ true
 parameters_are [] h = refl
 parameters_are (b ∷ x) h =
@@ -64,7 +64,7 @@ no_prefix (b ∷ x) h =
     let p = and_parts (is_csi_parameter b) (list_all is_csi_parameter x) h in
     rw (parameter_is b p.0).1 refl
 
-parameters_form : (x : List ℕ) → list_all is_csi_parameter x ≡ true → is_csi_body x ≡ true
+pub parameters_form : (x : List ℕ) → list_all is_csi_parameter x ≡ true → is_csi_body x ≡ true
 unfolding is_csi_body
 parameters_form x h = rw (no_prefix x h, none_left x h) refl
 

@@ -103,8 +103,8 @@ module _ {A : Type 0} (u : Guard) (admits : Value A → Bool) (b : Option ℕ) (
 
 -- ---- the reading of such a sequence
 
-one_reading : {A : Type 0} (limit : ℕ) (g : Shape) (finished : Bool) (es : List CsiParam) (f : ℕ)
-    → events_of_within (Some limit) g finished ≡ CsiDispatch es false f ∷ []
+pub one_reading : {A : Type 0} (limit : ℕ) (g : Shape) (finished : Bool) (es : List CsiParam)
+    (f : ℕ) → events_of_within (Some limit) g finished ≡ CsiDispatch es false f ∷ []
     → reading_within {A = A} (Some limit) g finished ≡ map csi (csi_of es false f)
 one_reading limit g finished es f e =
     ap (values_from (Some limit) plain) e ∙ append-nil (map csi (csi_of es false f))

@@ -1,7 +1,7 @@
 -- Control sequences that are left out.
 use Rattle.std.specs.Prelude.{ℕ, ◌≡◌, true, false, List, [], ◌∷◌, length, Option, None}
 use Rattle.esc_frame.specs.Segments.Opener.{Long}
-use Rattle.esc_frame.specs.Segments.Segment.{Csi}
+use Rattle.esc_frame.specs.Segments.Segment.{Csi, Escape}
 use Rattle.esc_segments.specs.declared.kind.SegmentKind.TheVariants as kinds
 use Rattle.esc_account.specs.Accounts.{Rule, sums_with, total}
 use Rattle.esc_account.specs.AtOnce.{IsSequence}
@@ -18,6 +18,10 @@ pub record IsLeftOut (r : Rule) (bytes : List ℕ) : Type 0 where
   pub whole : bytes ≡ 0x1b ∷ 0x5b ∷ rest
   pub sequence : IsSequence rest final
   pub leaves : (b : Option ℕ) → r b (Csi (Long []) sequence.body final) true ≡ left_as b
+
+-- `ESC \` by itself is left out after each character
+abbrev pub LeavesEnds : Rule → Type 0
+LeavesEnds r = (b : Option ℕ) → r b (Escape [] 0x5c) true ≡ left_as b
 
 -- after the bytes of such a sequence
 abbrev pub all_left : List ℕ → Account → Account

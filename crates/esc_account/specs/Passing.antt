@@ -1,10 +1,12 @@
--- Characters and controls that pass.
-use Rattle.std.specs.Prelude.{ℕ, ◌≡◌, ◌==◌, true, false, List, [], ◌∷◌, ◌++◌, Option, None, Some}
+-- Characters, controls and control sequences that pass.
+use Rattle.std.specs.Prelude.{ℕ, ◌≡◌, ◌==◌, true, false, List, [], ◌∷◌, ◌++◌, length, Option, None, Some}
 use Rattle.esc_frame.specs.Classes.{class_of, is_control, is_text}
 use Rattle.esc_frame.specs.Segments.{Segment as Shape, joined_bytes}
-use Rattle.esc_frame.specs.Segments.Segment.{Character, Control, Wide}
+use Rattle.esc_frame.specs.Segments.Opener.{Long}
+use Rattle.esc_frame.specs.Segments.Segment.{Character, Control, Csi, Wide}
 use Rattle.esc_frame.specs.Sequences.{is_pair, is_sequence, number_of}
-use Rattle.esc_account.specs.Accounts.{Rule}
+use Rattle.esc_account.specs.Accounts.{Rule, sums_with}
+use Rattle.esc_account.specs.AtOnce.{IsSequence}
 use Rattle.esc_account.specs.Finished.{account_after}
 use Rattle.esc_account.specs.declared.account.Account.{Account}
 use Rattle.esc_account.specs.declared.fate.Fate.TheVariants as fates
@@ -44,3 +46,20 @@ pub record Passes (r : Rule) (x : Account) (bytes rest : List ℕ) (y : Account)
   pub whole : bytes ≡ joined_bytes shapes ++ rest
   pub pass : AllPass r x.before shapes last
   pub account : y ≡ account_after r x shapes
+
+-- the bytes are a control sequence after `ESC [` without noise, which by itself passes after each
+-- character
+pub record IsPassedSequence (r : Rule) (bytes : List ℕ) : Type 0 where
+  pub rest : List ℕ
+  pub final : ℕ
+  pub whole : bytes ≡ 0x1b ∷ 0x5b ∷ rest
+  pub sequence : IsSequence rest final
+  pub passes : (b : Option ℕ) → r b (Csi (Long []) sequence.body final) true ≡ passed_as None
+
+-- the account after the bytes of such a sequence
+abbrev pub sequence_passed : List ℕ → Account → Account
+sequence_passed bytes x = record x {
+  sums = sums_with fates.Passed (length bytes) x.sums;
+  string = None;
+  before = None;
+}

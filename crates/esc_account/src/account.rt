@@ -151,7 +151,7 @@ impl Account {
 
     // The account of a segment too, of which by itself this becomes: it is written into the book,
     // unless it passed.
-    fn written<A: Allocator, B: Book<A>>(
+    pub(crate) fn written<A: Allocator, B: Book<A>>(
         self,
         book: &mut B,
         segment: Segment<'_>,

@@ -1,11 +1,11 @@
 //! Whoever says what becomes of a segment.
 #![tactic(auto)]
 
-ghost use Rattle.std.specs.Prelude.{◌≡◌, ◌<◌, ◌≤◌, ℕ, Bool, IfOk, List, OnErr, Option, ◌∷◌, length, take};
+ghost use Rattle.std.specs.Prelude.{◌≡◌, ◌<◌, ◌≤◌, ℕ, Bool, IfOk, IsTrue, List, OnErr, Option, ◌∷◌, length, take};
 ghost use Rattle.esc_frame.specs.Segments.{AreSegments, Segment as Shape, is_finished, joined_bytes};
 ghost use Rattle.esc_segments.specs.Items.{IsItem};
-ghost use Rattle.esc_account.specs.Leaving.{IsLeftOut};
-ghost use Rattle.esc_account.specs.Passing.{IsPassing};
+ghost use Rattle.esc_account.specs.Leaving.{IsLeftOut, LeavesEnds};
+ghost use Rattle.esc_account.specs.Passing.{IsPassedSequence, IsPassing};
 ghost use Rattle.esc_account.specs.declared.verdict.Verdict.{Verdict};
 ghost use Rattle.fallible_alloc.specs.Refusals.{Refused};
 
@@ -48,5 +48,25 @@ pub trait Judge<A: Allocator> {
         ensures left { 0 < result → IsLeftOut (rule self.now) (take result _bytes.now) }
     {
         0
+    }
+
+    /// Returns how many bytes at the beginning are a control sequence after `ESC [` without noise
+    /// that passes whatever character comes before it. It is entered at once, with no call for its
+    /// verdict. The default is 0: a verdict for each.
+    fn passed_ahead(&self, _bytes: &[u8]) -> usize
+        ensures few { result ≤ length _bytes.now }
+        ensures passed { 0 < result
+            → IsPassedSequence (rule self.now) (take result _bytes.now) }
+    {
+        0
+    }
+
+    /// Returns whether `ESC \` by itself is left out whatever character comes before it. The judge
+    /// is then not asked about it, and one that ends a string goes the way of the string. The
+    /// default is false.
+    fn leaves_ends(&self) -> bool
+        ensures { IsTrue result → LeavesEnds (rule self.now) }
+    {
+        false
     }
 }

@@ -34,6 +34,7 @@ mod line_run;
 pub mod place;
 pub mod policy_judge;
 pub mod reading;
+mod rendition;
 mod room;
 pub mod row;
 mod same_lines;

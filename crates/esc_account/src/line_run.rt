@@ -9,7 +9,7 @@ ghost use Rattle.esc_account.specs.Entries.{Entry as Told, noted_entries};
 ghost use Rattle.esc_account.specs.Finished.{Finishes, IsLast, Takes};
 ghost use Rattle.esc_account.specs.Leaving.{all_left, left_entry};
 ghost use Rattle.esc_account.specs.LineEnds.{line_entries, run_line};
-ghost use Rattle.esc_account.specs.Passing.{Passes};
+ghost use Rattle.esc_account.specs.Passing.{Passes, sequence_passed};
 
 use crate::account::Account;
 use crate::book::Book;
@@ -17,6 +17,8 @@ use crate::entry::Entry;
 use crate::fate::Fate;
 use crate::first::{after, first_segment, is_end, segment_ahead};
 use crate::judge::Judge;
+use crate::terminator::leaves_end;
+use crate::verdict::Verdict;
 use esc_frame::laws;
 use esc_segments::{Segment, SegmentKind};
 use std::alloc::{AllocError, Allocator};
@@ -103,10 +105,10 @@ impl Account {
         }
     }
 
-    // Enters a sequence that is left out, characters that pass, or a finished segment, and returns
-    // the account with it and its length. The first two are most of a line, and the code for them
-    // is in the loop.
-    #[inline]
+    // Enters a sequence that is left out, characters that pass, a sequence that passes, or another
+    // finished segment, and returns the account with it and its length. The first two are most of a
+    // line, and the code for them is in the loop.
+    #[inline(always)]
     fn next_entered<A: Allocator, J: Judge<A>, B: Book<A>>(
         self,
         judge: &J,
@@ -133,10 +135,49 @@ impl Account {
         if run > 0 {
             return Ok((account, run));
         }
-        self.other_entered(judge, book, bytes, ends)
+        let passed = judge.passed_ahead(bytes);
+        if passed > 0 {
+            return Ok((self.sequence_passed(&bytes[..passed]), passed));
+        }
+        self.end_entered(judge, book, bytes, ends)
     }
 
-    // The same of a segment that is finished, whatever it is.
+    // Does the same for a finished segment, most often `ESC \` after a string.
+    #[inline(never)]
+    fn end_entered<A: Allocator, J: Judge<A>, B: Book<A>>(
+        self,
+        judge: &J,
+        book: &mut B,
+        bytes: &[u8],
+        ends: bool,
+    ) -> Result<(Account, usize), AllocError>
+        requires room { HasRoom self (length bytes.now) }
+        ensures finishes { IfOk result (λ r. (fs : List Told)
+            × Finishes ends (J.rule judge.now) self bytes.now (drop r.1 bytes.now) r.0 fs
+            × Takes B.Book book.old fs book.new) }
+        ensures counts { IfOk result (λ r. (r.1 ≤ length bytes.now) × Counts self r.1 r.0)
+            × OnErr result (Refused A) }
+        ensures last { IfOk result (λ r. r.1 ≡ 0 → IsLast ends bytes.now) }
+    {
+        if !leaves_end(judge, bytes) {
+            return self.other_entered(judge, book, bytes, ends);
+        }
+        let segment = Segment {
+            kind: SegmentKind::Escape,
+            bytes: &bytes[..2],
+            finished: true,
+        };
+        let own = Verdict {
+            fate: Fate::LeftOut,
+            before: self.before,
+        };
+        match self.written(book, segment, own) {
+            Ok(longer) => Ok((longer, 2)),
+            Err(error) => Err(error),
+        }
+    }
+
+    // Does the same for any finished segment.
     fn other_entered<A: Allocator, J: Judge<A>, B: Book<A>>(
         self,
         judge: &J,
@@ -163,7 +204,7 @@ impl Account {
     }
 
     // The account of the bytes too of a control sequence that is left out by itself.
-    #[inline]
+    #[inline(always)]
     fn left_entered<A: Allocator, B: Book<A>>(
         self,
         book: &mut B,
@@ -194,9 +235,24 @@ impl Account {
         })
     }
 
+    // Returns the account with the bytes of a control sequence that passes by itself.
+    #[inline(always)]
+    fn sequence_passed(self, bytes: &[u8]) -> Account
+        requires room { HasRoom self (length bytes.now) }
+        ensures entered { result ≡ sequence_passed bytes.now self }
+        ensures counts { Counts self (length bytes.now) result }
+    {
+        Account {
+            sums: self.sums.with(Fate::Passed, bytes.len() as u64),
+            string: None,
+            before: None,
+            ..self
+        }
+    }
+
     // The account of the characters too that come first, of which the judge says at once that they
     // pass; and how many bytes these are.
-    #[inline]
+    #[inline(always)]
     fn text_passed<A: Allocator, J: Judge<A>>(self, judge: &J, bytes: &[u8]) -> (Account, usize)
         requires room { HasRoom self (length bytes.now) }
         ensures passes { Passes (J.rule judge.now) self bytes.now (drop result.1 bytes.now)

@@ -19,7 +19,8 @@ ghost use Rattle.esc_account.specs.Weighed.{fate_by, unweighed, weighed_all};
 use crate::command::{command_verdict, is_left_end};
 use crate::fate::Fate;
 use crate::judge::Judge;
-use crate::reading::{is_short, parse_into, segment_text, split_into};
+use crate::reading::{is_csi, is_short, parse_into, segment_text, split_into};
+use crate::rendition::passed_rendition;
 use crate::sequence::{left_sequence, sequence_verdict};
 use crate::terminator::is_end;
 use crate::text::text_run;
@@ -85,6 +86,9 @@ impl<P: Admit<A>, A: Allocator + Copy> Judge<A> for PolicyJudge<P, A> {
     ghost rule = { λ j. rule_of j.by_lines j.guard j.limit (P.admits j.policy) };
 
     fn verdict(&self, before: Option<char>, segment: Segment<'_>) -> Result<Verdict, AllocError> {
+        if !is_csi(segment.kind) {
+            return self.other_verdict(before, segment);
+        }
         match sequence_verdict(&self.policy, self.limit, before, segment) {
             Some(verdict) => Ok(verdict),
             None => self.other_verdict(before, segment),
@@ -97,6 +101,14 @@ impl<P: Admit<A>, A: Allocator + Copy> Judge<A> for PolicyJudge<P, A> {
 
     fn left_ahead(&self, bytes: &[u8]) -> usize {
         left_sequence(&self.policy, bytes)
+    }
+
+    fn passed_ahead(&self, bytes: &[u8]) -> usize {
+        passed_rendition(&self.policy, bytes)
+    }
+
+    fn leaves_ends(&self) -> bool {
+        self.policy.known().no_escapes
     }
 }
 

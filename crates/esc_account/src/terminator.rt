@@ -1,17 +1,39 @@
 //! Strings, and the terminators that end them.
 #![tactic(auto)]
 
-ghost use Rattle.std.specs.Prelude.{◌≡◌};
+ghost use Rattle.std.specs.Prelude.{◌≡◌, ◌≤◌, IsTrue, length, take, true};
 ghost use Rattle.esc_account.specs.Accounts.{awaits_terminator, ends_in_bell, fate_after, is_end, is_terminator};
+ghost use Rattle.esc_account.specs.Leaving.{LeavesEnds};
 
 use crate::fate::Fate;
+use crate::judge::Judge;
 use esc_segments::SegmentKind;
+use std::alloc::Allocator;
 
 // Whether the bytes are `ESC \`.
 pub(crate) fn is_end(bytes: &[u8]) -> bool
     ensures { result ≡ is_end bytes.now }
 {
     bytes.len() == 2 && bytes[0] == 0x1b && bytes[1] == 0x5c
+}
+
+// Returns whether `ESC \` comes first.
+#[inline(always)]
+fn begins_with_end(bytes: &[u8]) -> bool
+    ensures few { IsTrue result → 2 ≤ length bytes.now }
+    ensures end { IsTrue result → is_end (take 2 bytes.now) ≡ true }
+{
+    bytes.len() >= 2 && is_end(&bytes[..2])
+}
+
+/// Returns whether `ESC \` comes first, and the judge leaves it out by itself.
+#[inline(always)]
+pub(crate) fn leaves_end<A: Allocator, J: Judge<A>>(judge: &J, bytes: &[u8]) -> bool
+    ensures few { IsTrue result → 2 ≤ length bytes.now }
+    ensures end { IsTrue result → is_end (take 2 bytes.now) ≡ true }
+    ensures leaves { IsTrue result → LeavesEnds (J.rule judge.now) }
+{
+    begins_with_end(bytes) && judge.leaves_ends()
 }
 
 // Whether the last of the bytes is BEL.

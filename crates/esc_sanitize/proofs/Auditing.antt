@@ -2,9 +2,9 @@
 use Rattle.std.proofs.Common.{ℕ, ◌≡◌, ◌+◌, ◌-◌, ◌<◌, ◌^◌, min, arith, true, false, if◌then◌else◌, Option, None, Some, is_some, List, [], ◌∷◌, length, refl, sym, ap, ◌∙◌, subst}
 use Rattle.esc_account.specs.Accounts.{Rule, total}
 use Rattle.esc_account.specs.Judges.{GoesBy}
-use Rattle.esc_account.specs.Leaving.{IsLeftOut}
+use Rattle.esc_account.specs.Leaving.{IsLeftOut, LeavesEnds}
 use Rattle.esc_account.specs.Ledgers.{IsCounted}
-use Rattle.esc_account.specs.Passing.{AllPass, IsPassing, passed_as, says}
+use Rattle.esc_account.specs.Passing.{AllPass, IsPassedSequence, IsPassing, passed_as, says}
 use Rattle.esc_account.specs.Rules.{rule_of}
 use Rattle.esc_account.specs.Ways.{IsToldBy, Way, by_lines, silent_way, whole_way}
 use Rattle.esc_account.specs.declared.account.Account.{Account}
@@ -15,7 +15,7 @@ use Rattle.esc_decode.specs.Decodings.{decoded_stream}
 use Rattle.esc_filter.specs.declared.admit.Admit.{Ghosts as Admitter}
 use Rattle.esc_frame.specs.Segments.{Segment as Shape, bytes_of}
 use Rattle.esc_frame.specs.Segments.Opener.{Long}
-use Rattle.esc_frame.specs.Segments.Segment.{Csi}
+use Rattle.esc_frame.specs.Segments.Segment.{Csi, Escape}
 use Rattle.caret_notation.specs.declared.marking.Marking.{Marking}
 use Rattle.esc_sanitize.specs.Audits.{HasNoted, HeardAll, IsAudited, Told, account_of, way_by, way_of}
 use Rattle.esc_sanitize.specs.Fates.{shown_as}
@@ -94,6 +94,29 @@ shown_left None r x none h = record {
       ap (shown_as None (bytes_of (Csi (Long []) h.sequence.body h.final))) (h.leaves b);
 }
 shown_left (Some k) r x none h = absurd cc
+
+-- the end of a string too
+pub shown_ends : (m : Option Marking) (r : Rule) → is_some m ≡ false → LeavesEnds r
+    → LeavesEnds (λ b g f. shown_as m (bytes_of g) (r b g f))
+shown_ends None r none h = λ b. ap (shown_as None (bytes_of (Escape [] 0x5c))) (h b)
+shown_ends (Some k) r none h = absurd cc
+
+-- a sequence that passes does so whatever is shown
+pub shown_passed : (m : Option Marking) (r : Rule) (x : List ℕ) → IsPassedSequence r x
+    → IsPassedSequence (λ b g f. shown_as m (bytes_of g) (r b g f)) x
+shown_passed m r x h = record {
+  rest = h.rest;
+  final = h.final;
+  whole = h.whole;
+  sequence = h.sequence;
+  passes = λ b.
+      ap (shown_as m (bytes_of (Csi (Long []) h.sequence.body h.final))) (h.passes b)
+      ∙ same m (bytes_of (Csi (Long []) h.sequence.body h.final));
+}
+  where
+    same : (m : Option Marking) (s : List ℕ) → shown_as m s (passed_as None) ≡ passed_as None
+    same None s = refl
+    same (Some k) s = refl
 
 -- ---- what the options say
 

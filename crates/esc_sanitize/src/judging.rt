@@ -78,6 +78,17 @@ impl<P: Admit<A>, A: Allocator + Copy> Judge<A> for Judging<P, A> {
         }
         self.policy.left_ahead(bytes)
     }
+
+    fn passed_ahead(&self, bytes: &[u8]) -> usize {
+        self.policy.passed_ahead(bytes)
+    }
+
+    fn leaves_ends(&self) -> bool {
+        if self.show.is_some() {
+            return false;
+        }
+        self.policy.leaves_ends()
+    }
 }
 
 // Judges a segment of these bytes, if bytes that are not in the output may be shown.

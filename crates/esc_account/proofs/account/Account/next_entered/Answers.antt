@@ -2,6 +2,7 @@ use Rattle.std.proofs.Common.{◌∷◌, [], take, drop, take-append-drop, sym, 
 use Rattle.esc_account.specs.Leaving.{left_entry}
 use Rattle.esc_account.proofs.Finishing.{takes_none}
 use Rattle.esc_account.proofs.Leaving.{left_finishes}
+use Rattle.esc_account.proofs.PassedSequences.{passed_finishes}
 use Rattle.esc_account.proofs.Running.{passes_finishes}
 use Rattle.esc_account.proofs.account.Account.next_entered.Goals as goal
 
@@ -25,3 +26,15 @@ returns-then-run-gt0-clause-finishes g c = (
       c.text_passed-run.result.0 c.args.bytes.now _ c.text_passed-run.ensures.passes,
   λ es old. takes_none (g.B.Book.was_given c.args.book.now) es old,
 )
+
+pub returns-then-passed-gt0-clause-finishes : goal.returns-then-passed-gt0-clause-finishes
+returns-then-passed-gt0-clause-finishes g c =
+    let s = c.args.bytes.now in
+    let n = c.passed_ahead-passed.result in (
+      [],
+      passed_finishes c.args.ends (g.J.Judge.rule c.args.judge.now) c.args.self
+          c.sequence_passed.result s (take n s) (drop n s) (sym (take-append-drop n s))
+          (c.passed_ahead-passed.ensures.passed (omega (arith, c.if-passed-gt0.true)))
+          c.sequence_passed.ensures.entered,
+      λ es old. takes_none (g.B.Book.was_given c.args.book.now) es old,
+    )

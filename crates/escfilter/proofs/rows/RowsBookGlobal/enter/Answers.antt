@@ -1,8 +1,0 @@
-use Rattle.escfilter.proofs.Reported.{called_so}
-use Rattle.escfilter.proofs.rows.RowsBookGlobal.enter.Goals as goal
-
-pub returns-in_ok-name-clause-given : goal.returns-in_ok-name-clause-given
-returns-in_ok-name-clause-given c = λ es has.
-    c.begin.ensures.noted es has
-    (called_so c.args.self.now.options.filter c.args.made c.in_ok-name.name c.if-made.false
-    (λ g gs are item. c.in_ok-name.ensures.given g gs are item has.judge))
