@@ -97,6 +97,23 @@ impl<'a> Rows<'a> {
         }
     }
 
+    // Notes and tells an entry, where losses get names. It is out of the way of the code that
+    // counts bytes.
+    #[inline(never)]
+    fn enter_named(&mut self, made: Entry<'_>) -> Result<(), AllocError>
+        requires { is_respelled made.fate ≡ false }
+        ensures noted { (es : List Told) → HasRows self.old es
+            → OnOk result (HasRows self.new (es ++ as_entry made.entry ∷ [])) }
+        ensures refused { OnErr result (Refused Global) }
+    {
+        if made.is_end {
+            self.end(made)
+        } else {
+            let name = self.name(made.segment, made.fate)?;
+            self.begin(made, name)
+        }
+    }
+
     // Notes and tells an entry under this name.
     fn begin(&mut self, made: Entry<'_>, name: Name) -> Result<(), AllocError>
         requires { is_respelled made.fate ≡ false }
@@ -290,15 +307,11 @@ fn is_respelled(fate: Fate) -> bool
 impl<'a> Book<Global> for Rows<'a> {
     ghost was_given = { HasRows };
 
+    #[inline(always)]
     fn enter(&mut self, made: Entry<'_>) -> Result<(), AllocError> {
         if is_respelled(made.fate) || !self.options.has_names() {
             return Ok(());
         }
-        if made.is_end {
-            self.end(made)
-        } else {
-            let name = self.name(made.segment, made.fate)?;
-            self.begin(made, name)
-        }
+        self.enter_named(made)
     }
 }
