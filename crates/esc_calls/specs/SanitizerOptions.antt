@@ -127,13 +127,15 @@ pub record SaysGuard (r : SanitizerOptions) (usual : Guard) (by_lines : Bool) (g
 
 -- ---- rows that may be written again
 
--- a screen of these rows and columns, on which this is written of characters that deceive
-abbrev pub window_numbered : ℕ → ℕ → Unicode → Option Size
-window_numbered rows columns u =
-    if rows == 0 then None else Some (window_of rows (columns_numbered columns) u)
+-- a screen of these rows and columns, on which this is written of characters that deceive; where
+-- counts, its text is counted
+abbrev pub window_numbered : ℕ → ℕ → Unicode → Bool → Option Size
+window_numbered rows columns u counts =
+    if rows == 0 then None
+    else Some (record (window_of rows (columns_numbered columns) u) { counts = counts })
 
 pub record SaysWindow (r : SanitizerOptions) (u : Unicode) (w : Option Size) : Type 0 where
-  pub window : w ≡ window_numbered r.rows r.columns u
+  pub window : w ≡ window_numbered r.rows r.columns u (not (r.account == 0))
   pub few : r.rows ≤ MOST_ROWS
   pub narrow : r.columns ≤ MOST_COLUMNS
 

@@ -8,7 +8,7 @@ use esc_filter::Unicode;
 use line_collapse::{COLUMNS, Window};
 
 /// Returns the screen whose final rows are written, if rows may be written again; this is the way
-/// for characters that deceive.
+/// for characters that deceive. Its text is counted only for an account.
 pub(crate) fn window_said(
     options: &SanitizerOptions,
     characters: Unicode,
@@ -22,17 +22,21 @@ pub(crate) fn window_said(
     if options.columns > MOST_COLUMNS {
         return Err(Fault::Columns);
     }
-    Ok(window_of(options.rows, options.columns, characters))
+    let counts = options.account != 0;
+    Ok(window_of(options.rows, options.columns, characters, counts))
 }
 
-// Does the same, if the numbers are not too large.
-fn window_of(rows: u32, columns: u32, characters: Unicode) -> Option<Window>
-    ensures { result ≡ window_numbered rows columns characters }
+// Does the same, if the numbers are not too large. If `counts`, its text is counted.
+fn window_of(rows: u32, columns: u32, characters: Unicode, counts: bool) -> Option<Window>
+    ensures { result ≡ window_numbered rows columns characters counts }
 {
     if rows == 0 {
         None
     } else {
-        Some(Window::new(rows as usize, columns_of(columns), characters))
+        Some(Window {
+            counts,
+            ..Window::new(rows as usize, columns_of(columns), characters)
+        })
     }
 }
 
