@@ -34,10 +34,10 @@ use std::alloc::{AllocError, Allocator};
 pub struct Account {
     /// How many had each fate.
     pub sums: Sums,
-    /// The fate of the string that came last, where nothing came after it: the terminator that ends
-    /// it goes the same way.
+    /// The fate of the string that came last, if nothing came after it: the terminator that ends it
+    /// goes the same way.
     pub string: Option<Fate>,
-    /// The character that was written last, where it comes before what is written next.
+    /// The character that was written last, if it comes before the next text.
     pub before: Option<char>,
     /// How many line feeds they have.
     pub lines: u64,
@@ -73,9 +73,9 @@ impl Account {
         }
     }
 
-    /// The account of these bytes too: each of their segments has the fate that the judge says, and
-    /// those that did not pass are written into the book. The bytes go on where no segment is
-    /// unfinished. `AllocError` says that a request for memory was refused.
+    /// Enters these bytes too: each of their segments has the fate that the judge says, and those
+    /// that did not pass are written into the book. The bytes go on from a place without an
+    /// unfinished segment. `AllocError` says that a request for memory was refused.
     pub fn entered<A: Allocator, J: Judge<A>, B: Book<A>>(
         self,
         judge: &J,
@@ -93,10 +93,10 @@ impl Account {
         self.line_run(judge, book, bytes, false)
     }
 
-    /// The account of a line too, which is a stream of its own: where it was written as it came,
-    /// all of it passed; else each of its segments has the fate that the judge says, but for a
-    /// carriage return and the line feed that end both the line and what was written of it: these
-    /// passed. `AllocError` says that a request for memory was refused.
+    /// Enters a line too, which is a stream of its own: if it was written as it came, all of it
+    /// passed; else each of its segments has the fate that the judge says, but for a carriage
+    /// return and the line feed that end both the line and its text: these passed. `AllocError`
+    /// says that a request for memory was refused.
     pub fn line_entered<A: Allocator, J: Judge<A>, B: Book<A>>(
         self,
         judge: &J,

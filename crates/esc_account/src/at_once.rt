@@ -11,9 +11,9 @@ use crate::first::after;
 use esc_frame::runs::scans::data_run;
 use esc_segments::{Segment, SegmentKind};
 
-/// The segment that comes first, where it is seen at once: a control sequence after `ESC [` with no
-/// noise and no intermediates, or an operating system command of bytes 20 to 7E after `ESC ]` that
-/// BEL or ESC ends.
+/// Returns the first segment, if it is seen at once: a control sequence after `ESC [` with no noise
+/// and no intermediates, or an operating system command of bytes 20 to 7E after `ESC ]` that BEL or
+/// ESC ends.
 #[inline]
 pub(crate) fn segment_at_once(bytes: &[u8]) -> Option<Segment<'_>>
     ensures { IfSome result (IsSeen bytes.now) }
@@ -70,8 +70,8 @@ fn command_at_once(bytes: &[u8]) -> Option<Segment<'_>>
     }
 }
 
-/// How many bytes come first that are the body of a control sequence without intermediates and its
-/// final byte, and this byte; 0 where none are.
+/// Counts the bytes that come first and are the body of a control sequence without intermediates
+/// and its final byte, and returns this byte; 0 if there are none.
 #[inline]
 pub(crate) fn sequence_end(bytes: &[u8]) -> (usize, u8)
     ensures few { result.0 ≤ length bytes.now }

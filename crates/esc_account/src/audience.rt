@@ -1,4 +1,4 @@
-//! Whoever hears of a stream what is written of it.
+//! The hearers of a stream and of its text.
 #![tactic(auto)]
 
 ghost use Rattle.std.specs.Prelude.{◌≡◌, ◌++◌, ℕ, List, OnErr, OnOk};
@@ -7,7 +7,7 @@ ghost use Rattle.esc_account.specs.Ways.{Way};
 
 use std::alloc::{AllocError, Allocator};
 
-/// Hears what comes of a stream, each time with the text that a filter wrote of that: a
+/// Hears the bytes of a stream as they come, each time with the text that a filter wrote of them: a
 /// [`LineLedger`](crate::LineLedger) or a [`Ledger`](crate::Ledger).
 pub trait Tap<A: Allocator> {
     // it heard this stream, of which this text was written

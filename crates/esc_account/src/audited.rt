@@ -1,4 +1,4 @@
-//! A filter, and an audience of what it writes.
+//! A filter, and an audience of its output.
 #![tactic(auto)]
 
 use crate::audience::Tap;

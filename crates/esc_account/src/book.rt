@@ -21,7 +21,7 @@ pub trait Book<A: Allocator> {
         ensures refused { OnErr result (Refused A) };
 }
 
-/// A book that keeps nothing, where the sums are enough.
+/// A book that keeps nothing, if the sums are enough.
 #[derive(Clone, Copy, Debug)]
 pub struct NoBook;
 

@@ -13,7 +13,7 @@ use esc_parse::Sink;
 use std::alloc::{AllocError, Allocator, Global};
 
 /// Keeps the actions that come, but of data the first byte alone, so that a long string takes no
-/// more memory for what it means.
+/// more memory for its meaning.
 #[derive(Drop)]
 pub(crate) struct Brief<A: Allocator = Global> {
     pub actions: Vec<Action<A>, A>,

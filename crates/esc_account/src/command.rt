@@ -23,8 +23,8 @@ use esc_segments::{Segment, SegmentKind};
 use esc_write::is_plain_link;
 use std::alloc::Allocator;
 
-/// The verdict on an operating system command of bytes 20 to 7E after `ESC ]`, where its text tells
-/// the policy that it does not pass.
+/// Returns the verdict on an operating system command of bytes 20 to 7E after `ESC ]`, if its text
+/// tells the policy that it does not pass.
 pub(crate) fn command_verdict<P: Admit<A>, A: Allocator>(
     policy: &P,
     limit: usize,

@@ -11,7 +11,7 @@ use crate::at_once::segment_at_once;
 use esc_frame::laws;
 use esc_segments::{Segment, Segments};
 
-/// The first segment of the bytes, or none where there are no bytes.
+/// Returns the first segment of the bytes, or none if there are no bytes.
 pub(crate) fn first_segment(bytes: &[u8]) -> Option<Segment<'_>>
     ensures first { (gs : List Shape) → IsCut bytes.now gs → MatchOption result (gs ≡ [])
         (λ x. IsHead bytes.now gs x (drop (length x.bytes.now) bytes.now)) }
@@ -38,8 +38,8 @@ fn any_segment(bytes: &[u8]) -> Option<Segment<'_>>
     segments.next()
 }
 
-/// The same, but none also where what comes first is unfinished, or where `ends` and the bytes are
-/// a carriage return and a line feed.
+/// The same, but none also if the first segment is unfinished, or if `ends` and the bytes are a
+/// carriage return and a line feed.
 pub(crate) fn segment_ahead(bytes: &[u8], ends: bool) -> Option<Segment<'_>>
     ensures first { (gs : List Shape) → IsCut bytes.now gs → IfSome result
         (λ x. IsHead bytes.now gs x (drop (length x.bytes.now) bytes.now)) }
@@ -61,7 +61,7 @@ pub(crate) fn segment_ahead(bytes: &[u8], ends: bool) -> Option<Segment<'_>>
     }
 }
 
-/// Whether the bytes are the end of a line, where that is one with a carriage return.
+/// Whether the bytes are the end of a line with a carriage return.
 pub(crate) fn is_end(ends: bool, bytes: &[u8]) -> bool
     ensures { result ≡ (ends && is_return_feed bytes.now) }
 {

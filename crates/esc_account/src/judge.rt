@@ -1,4 +1,4 @@
-//! Whoever says what becomes of a segment.
+//! The judges of the fate of a segment.
 #![tactic(auto)]
 
 ghost use Rattle.std.specs.Prelude.{◌≡◌, ◌<◌, ◌≤◌, ℕ, Bool, IfOk, IsTrue, List, OnErr, Option, ◌∷◌, length, take};
@@ -13,8 +13,8 @@ use crate::verdict::Verdict;
 use esc_segments::Segment;
 use std::alloc::{AllocError, Allocator};
 
-/// Says of a segment what becomes of it by itself: a [`PolicyJudge`](crate::PolicyJudge), or a rule
-/// of the caller's own.
+/// Says the fate of a segment by itself: a [`PolicyJudge`](crate::PolicyJudge), or a rule of the
+/// caller's own.
 pub trait Judge<A: Allocator> {
     // the verdict on each segment, finished or not, after each character
     ghost rule: { Self → Option ℕ → Shape → Bool → Verdict };
@@ -28,11 +28,11 @@ pub trait Judge<A: Allocator> {
             → IfOk result (λ v. v ≡ rule self.now before g (is_finished g (joined_bytes gs))) }
         ensures refused { OnErr result (Refused A) };
 
-    /// How many bytes come first that are characters of text, 20 to 7F or well-formed UTF-8, and
-    /// controls of C0 but carriage return and ESC, of which each passes by itself; and the
-    /// character that comes before what is written next after them, where `before` comes before
-    /// them. These are entered at once, and none of them is asked of. It may be fewer than there
-    /// are, and is 0 by default, where each is asked of.
+    /// Counts the bytes that come first and are characters of text, 20 to 7F or well-formed UTF-8,
+    /// and controls of C0 but carriage return and ESC, each of which passes by itself; and returns
+    /// the character before the next text after them, if `before` comes before them. These are
+    /// entered at once, and no verdict on them is asked for. It may be fewer than there are, and is
+    /// 0 by default, so that each has a verdict.
     fn passing(&self, before: Option<char>, _bytes: &[u8]) -> (usize, Option<char>)
         ensures few { result.0 ≤ length _bytes.now }
         ensures pass { IsPassing (rule self.now) before (take result.0 _bytes.now) result.1 }

@@ -1,5 +1,4 @@
-//! Laws of accounts, for every rule that says what becomes of a segment, and of the rule of a
-//! policy.
+//! Laws of accounts, for every rule that says the fate of a segment, and for the rule of a policy.
 #![tactic(auto)]
 
 ghost use Rattle.std.specs.Prelude.{◌≡◌, ◌++◌, ◌∷◌, ◌<◌, ℕ, Bool, List, Option, Some, [], false, length, true};
@@ -38,8 +37,8 @@ pub fn blocks_go_on()
     esc_frame::laws::has_cut();
 }
 
-/// The account of lines goes on line by line: with the line that comes next, and what was written
-/// of it; with lines that were written as they came; and with a last line that no line feed ends.
+/// The account of lines goes on line by line: with the line that comes next, and its text; with
+/// lines that were written as they came; and with a last line that no line feed ends.
 pub fn lines_go_on()
     ensures line { (r : Rule) (s t l w : List ℕ) (x y : Account) (es fs : List Entry)
         → HasRun r s t x es → IsLine l → IsLine w → LineRuns r x l w y fs
@@ -70,16 +69,16 @@ pub fn entries_add_up()
     esc_frame::laws::has_cut();
 }
 
-/// By the rule of a policy what means nothing is swallowed, so that nothing vanishes from the
-/// account.
+/// By the rule of a policy a segment that means nothing is swallowed, so that nothing vanishes from
+/// the account.
 pub fn nothing_vanishes<A: Allocator>()
     ensures { (by_lines : Bool) (u : Guard) (limit : ℕ) (admits : Value A → Bool) (b : Option ℕ)
         (g : Shape) (finished : Bool) → reading_within {A = A} (Some limit) g finished ≡ []
         → (rule_of by_lines u limit admits b g finished).fate ≡ Fate.Swallowed }
 {}
 
-/// By the rule of a policy all that a segment means is written where the segment passed, and the
-/// text of that is its bytes, as they came, but for the `ESC \` that ends a string.
+/// By the rule of a policy all that a segment means is written if the segment passed, and the text
+/// of that is its bytes, as they came, but for the `ESC \` that ends a string.
 pub fn passed_as_it_came<A: Allocator>()
     ensures written { (by_lines : Bool) (u : Guard) (limit : ℕ) (admits : Value A → Bool)
         (b : Option ℕ) (g : Shape) (finished : Bool)
@@ -93,8 +92,8 @@ pub fn passed_as_it_came<A: Allocator>()
         (list_text (reading_within {A = A} (Some limit) g finished)) }
 {}
 
-/// The character that the rule of a policy says comes before what is written next is that which a
-/// filter writes last of a value, after the same character.
+/// By the rule of a policy, the character before the next text is the one that a filter writes last
+/// of a value, after the same character.
 pub fn before_as_written<A: Allocator>()
     ensures { (u : Guard) (b : Option ℕ) (v : Value A)
         → last_written u b v ≡ last_after b (in_guard u b v) }

@@ -16,9 +16,9 @@ use crate::room::has_room;
 use esc_frame::laws;
 use std::alloc::{AllocError, Allocator, Global};
 
-/// Keeps the account of a stream: it hears what comes of it. It keeps what came of the segment that
-/// is unfinished, and cuts it again once it has twice as many bytes, so that a long one costs no
-/// more for each of its bytes. After 2^62 bytes nothing is said of it.
+/// Keeps the account of a stream: it hears the bytes as they come. It keeps those of the segment
+/// that is unfinished, and cuts it again once it has twice as many bytes, so that a long one costs
+/// no more for each of its bytes. After 2^62 bytes nothing is said of it.
 #[derive(Drop)]
 pub struct Ledger<J, B, A: Allocator = Global> {
     judge: J,
@@ -31,8 +31,8 @@ pub struct Ledger<J, B, A: Allocator = Global> {
 }
 
 impl<J: Judge<A>, B: Book<A>, A: Allocator> Ledger<J, B, A> {
-    /// Nothing came yet; this judge says what becomes of a segment, and what did not pass is
-    /// written into this book. Takes no memory.
+    /// A ledger to which nothing came yet; this judge says the fate of a segment, and the bytes
+    /// that did not pass are written into this book. Takes no memory.
     pub fn new(alloc: A, judge: J, book: B) -> Self
     where
         A: Copy,

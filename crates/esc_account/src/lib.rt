@@ -1,10 +1,10 @@
-//! The account of a filter: what became of every byte of a stream.
+//! The account of a filter: the fate of every byte of a stream.
 //!
-//! A stream is cut into segments, as a parser cuts it, and of each a [`Judge`] says what becomes of
-//! it: a [`PolicyJudge`] says what a filter does. Its bytes are counted by their [`Fate`], so that
-//! each byte of the input is in the output as it came, or in one of the other sums. An [`Account`]
-//! goes on line by line, or from one place without an unfinished segment to the next. A line that
-//! was written as it came passed, and is not cut.
+//! A stream is cut into segments, as a parser cuts it, and a [`Judge`] says the fate of each: a
+//! [`PolicyJudge`] judges as a filter does. Its bytes are counted by their [`Fate`], so that each
+//! byte of the input is in the output as it came, or in one of the other sums. An [`Account`] goes
+//! on line by line, or from one place without an unfinished segment to the next. A line that was
+//! written as it came passed, and is not cut.
 //!
 //! ```
 //! let judge = PolicyJudge::by_lines(alloc, 65_536, Policy::Color, Unicode::Keep);

@@ -17,11 +17,12 @@ use crate::whole_lines::{lines_entered, rest_entered};
 use esc_filter::line_length;
 use std::alloc::{AllocError, Allocator, Global};
 
-/// Keeps the account of a stream whose lines are streams of their own: it hears what comes of the
-/// stream, each time with the text that was written of that, as by a
+/// Keeps the account of a stream whose lines are streams of their own: it hears the bytes of the
+/// stream as they come, each time with the text that was written of them, as by a
 /// [`LineFilter`](esc_filter::LineFilter). The lines of the text are those that were written of the
-/// lines of the stream, one for each. It keeps what came of the last line, and what was written of
-/// it: lines that lie in a piece are entered there. After 2^62 bytes nothing is said of it.
+/// lines of the stream, one for each. It keeps the bytes of the last line, and the text that was
+/// written of it: lines that lie in a piece are entered there. After 2^62 bytes nothing is said of
+/// it.
 #[derive(Drop)]
 pub struct LineLedger<J, B, A: Allocator = Global> {
     judge: J,
@@ -36,8 +37,8 @@ pub struct LineLedger<J, B, A: Allocator = Global> {
 }
 
 impl<J: Judge<A>, B: Book<A>, A: Allocator> LineLedger<J, B, A> {
-    /// Nothing came yet; this judge says what becomes of a segment, and what did not pass is
-    /// written into this book. Takes no memory.
+    /// A ledger to which nothing came yet; this judge says the fate of a segment, and the bytes
+    /// that did not pass are written into this book. Takes no memory.
     pub fn new(alloc: A, judge: J, book: B) -> Self
     where
         A: Copy,

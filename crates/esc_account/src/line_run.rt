@@ -24,9 +24,9 @@ use esc_segments::{Segment, SegmentKind};
 use std::alloc::{AllocError, Allocator};
 
 impl Account {
-    /// The account of a line too, of which each segment has the fate that the judge says. If
-    /// `ends`, a carriage return and a line feed end what was written of it: once these alone are
-    /// left of the line they passed.
+    /// Enters a line too, each segment of which has the fate that the judge says. If `ends`, a
+    /// carriage return and a line feed end its text: once these alone are left of the line they
+    /// passed.
     pub(crate) fn line_run<A: Allocator, J: Judge<A>, B: Book<A>>(
         self,
         judge: &J,

@@ -1,4 +1,4 @@
-//! The fate of a segment where a policy says which actions pass.
+//! The fate of a segment by a policy that says which actions pass.
 #![tactic(auto)]
 
 ghost use Rattle.std.specs.Prelude.{◌≡◌, ◌∷◌, ℕ, if◌then◌else◌, IfOk, IfSome, List, None, OnErr, Option, Some, false, true};
@@ -33,7 +33,7 @@ use esc_segments::{Segment, SegmentKind};
 use std::alloc::{AllocError, Allocator, Global};
 use unicode_visibility::may_follow;
 
-/// Says what a filter with a policy does to a segment.
+/// Judges a segment as a filter with a policy does.
 ///
 /// The actions of the segment tell it, as the filter reads them. A segment that means nothing of
 /// its own is swallowed, whatever controls come within it: a string that nothing reads, a sequence
@@ -68,7 +68,7 @@ impl<P, A: Allocator> PolicyJudge<P, A> {
         PolicyJudge::with_guard(alloc, limit, policy, Guard::of_unicode(unicode), true)
     }
 
-    /// The one or the other, where `guard` says what is written of what deceives.
+    /// The one or the other, with `guard` for characters that deceive.
     pub fn with_guard(alloc: A, limit: usize, policy: P, guard: Guard, by_lines: bool) -> Self
         ensures { GoesBy result by_lines guard limit policy }
     {
@@ -151,7 +151,7 @@ impl<P: Admit<A>, A: Allocator + Copy> PolicyJudge<P, A> {
         }
     }
 
-    /// Whether something is written of the command of this text, where the policy knows it.
+    /// Whether something is written of the command of this text, if the policy knows it.
     pub(crate) fn admits_command(&self, text: &[u8]) -> Option<bool>
         ensures { IfSome result (λ b. P.admits self.now.policy
             (osc (command_meant (parts_of text.now))) ≡ b) }

@@ -235,11 +235,11 @@ fn text_by_parser<A: Allocator + Copy>(
     }
 }
 
-/// The actions of a segment, which is the first of those that are left of a stream: those of its
-/// reading, where no more than the limit is kept of a string; but of the data of a device control
-/// string the first byte alone. A segment that is finished is read with an ESC after it, which ends
-/// every segment and is no action where nothing follows. `AllocError` says that a request for
-/// memory was refused.
+/// Returns the actions of a segment, which is the first of those that are left of a stream: those
+/// of its reading, if no more than the limit is kept of a string; but of the data of a device
+/// control string the first byte alone. A segment that is finished is read with an ESC after it,
+/// which ends every segment and is no action if nothing follows. `AllocError` says that a request
+/// for memory was refused.
 pub fn read_segment<A: Allocator + Copy>(
     alloc: A,
     limit: usize,
@@ -261,8 +261,8 @@ pub fn read_segment<A: Allocator + Copy>(
     }
 }
 
-/// The same by splitting the bytes of the segment, in less time: where it is no device control
-/// string, has so few bytes that the limit leaves nothing out, and memory is not refused.
+/// The same by splitting the bytes of the segment, in less time: if it is no device control string,
+/// has so few bytes that the limit leaves nothing out, and memory is not refused.
 pub fn read_short<A: Allocator + Copy>(
     alloc: A,
     limit: usize,

@@ -1,4 +1,4 @@
-//! The rows of a table of what did not pass.
+//! The rows of a table of the bytes that did not pass.
 #![tactic(auto)]
 
 use crate::fate::Fate;

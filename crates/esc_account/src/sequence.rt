@@ -28,8 +28,8 @@ use esc_write::indexed::Indexed;
 use esc_write::short_numbers::ShortNumbers;
 use std::alloc::Allocator;
 
-/// The verdict on a short control sequence after `ESC [`, where the policy knows that it does not
-/// pass, or that it does and is written as it came.
+/// Returns the verdict on a short control sequence after `ESC [`, if the policy knows that it does
+/// not pass, or that it does and is written as it came.
 pub(crate) fn sequence_verdict<P: Admit<A>, A: Allocator>(
     policy: &P,
     limit: usize,

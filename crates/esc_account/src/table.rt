@@ -1,4 +1,4 @@
-//! A table of what did not pass of a stream.
+//! A table of the bytes of a stream that did not pass.
 #![tactic(auto)]
 
 ghost use Rattle.std.specs.Prelude.{◌≡◌, ◌++◌, ◌∷◌, ◌<◌, ◌==◌, ℕ, IfOk, IfSome, List, None, OnErr, OnOk, [], false, if◌then◌else◌, length, true};
@@ -14,8 +14,8 @@ use crate::place::Place;
 use crate::row::Row;
 use std::alloc::{AllocError, Allocator, Global};
 
-/// A table of what did not pass of a stream: a row for each fate and name, in the order in which
-/// the first of each came.
+/// A table of the bytes of a stream that did not pass: a row for each fate and name, in the order
+/// in which the first of each came.
 #[derive(Drop)]
 pub struct Table<N, A: Allocator = Global> {
     rows: Vec<Row<N>, A>,
@@ -52,7 +52,7 @@ impl<N: Copy + Eq, A: Allocator> Table<N, A> {
         }
     }
 
-    /// Adds an entry under this name: to the row of its fate and name, which is new where there is
+    /// Adds an entry under this name: to the row of its fate and name, which is new if there is
     /// none. The terminator of a string is added to the row of the string, and is no thing more.
     pub fn add(&mut self, name: N, made: Entry<'_>) -> Result<(), AllocError>
         ensures all { (es : List Told) → HasAll self.old es

@@ -7,7 +7,7 @@ use crate::fate::Fate;
 pub struct Verdict {
     /// The fate of its bytes.
     pub fate: Fate,
-    /// The character that comes before what is written next, where a character does: a variation
-    /// selector or a joiner may belong to it.
+    /// The character before the next text, if there is one: a variation selector or a joiner may
+    /// belong to it.
     pub before: Option<char>,
 }

@@ -7,13 +7,13 @@ ghost use Rattle.esc_account.specs.Weighed.{unweighed};
 /// All that the fate of a segment rests on but its text, of the actions that came.
 #[derive(Clone, Copy)]
 pub(crate) struct Weighed {
-    /// Whether one is what the segment itself means.
+    /// Whether one is the meaning of the segment itself.
     pub has_own: bool,
     /// Whether something is written of each.
     pub writes_all: bool,
     /// Whether visible text is written in place of one.
     pub shows_some: bool,
-    /// The character that comes before what is written next.
+    /// The character before the next text.
     pub last: Option<char>,
 }
 

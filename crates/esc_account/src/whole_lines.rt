@@ -1,4 +1,4 @@
-//! The account of lines, each with what was written of it.
+//! The account of lines, each with its text.
 #![tactic(auto)]
 
 ghost use Rattle.std.specs.Prelude.{◌≡◌, ◌++◌, ◌<◌, ◌≤◌, IfOk, IfSome, List, OnErr, drop, length, take, ℕ};
@@ -25,8 +25,8 @@ pub(crate) struct Found {
     pub to: usize,
 }
 
-/// The account of the lines too that come whole first, of which whole lines of the text were
-/// written. `AllocError` says that a request for memory was refused.
+/// Enters the lines too that come whole first, and of which whole lines of the text were written.
+/// `AllocError` says that a request for memory was refused.
 pub(crate) fn lines_entered<A: Allocator, J: Judge<A>, B: Book<A>>(
     account: Account,
     judge: &J,
@@ -93,9 +93,8 @@ fn same_passed(account: Account, line: &[u8], text: &[u8]) -> (Account, usize)
     (account.passed(&line[..same]), same)
 }
 
-/// The account of all these lines too, of each of which the line of the text in the same place was
-/// written, or nothing where there is none. `AllocError` says that a request for memory was
-/// refused.
+/// Enters all these lines too, each with the line of the text in the same place, or nothing if
+/// there is none. `AllocError` says that a request for memory was refused.
 pub(crate) fn rest_entered<A: Allocator, J: Judge<A>, B: Book<A>>(
     account: Account,
     judge: &J,

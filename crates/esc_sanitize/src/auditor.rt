@@ -1,4 +1,4 @@
-//! Whoever keeps the account of a stream, where there is one.
+//! The keeper of the account of a stream, if there is one.
 ghost use Rattle.std.specs.Prelude.{◌≡◌, ℕ, List, IfSome, MatchOption, None, Some, []};
 ghost use Rattle.esc_sanitize.specs.Overwritten.{moved, with_overwritten};
 
@@ -40,7 +40,7 @@ impl<P: Admit<A> + Drop, B: Book<A> + Drop, A: Allocator + Copy> Auditor<P, B, A
         }
     }
 
-    /// The account, and what did not pass.
+    /// Returns the account, and the book of the bytes that did not pass.
     pub fn account(&self) -> Option<(Account, &B)>
         ensures account { MatchOption result (account_of self.now ≡ None)
             (λ r. account_of self.now ≡ Some r.0) }

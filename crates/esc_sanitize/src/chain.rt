@@ -20,16 +20,16 @@ pub type Lined<P, A> = Either<ResumingFilter<P, A>, LineFilter<P, A>>;
 /// A filter of lines, or of a whole stream.
 pub type Framed<P, A> = Either<Lined<P, A>, Filter<P, A>>;
 
-/// The same, where what does not pass may be shown.
+/// The same, if bytes that do not pass may be shown.
 pub type Chain<P, A> = Either<Framed<P, A>, Revealing<Framed<P, A>, P, A>>;
 
-/// A filter by options, with an auditor, as what takes a stream in chunks: that of a program that
+/// A filter by options, with an auditor, as a taker of a stream in chunks: that of a program that
 /// gets its stream in a format of its own, such as a recording.
 pub type Sanitizing<P, B, A = Global> = Staged<Chain<P, A>, P, B, A>;
 
-/// A filter by these options, with an auditor who writes what did not pass into this book; at the
-/// beginning of a stream. It takes no memory but for rows that may be written again: where that is
-/// refused, the first call says so.
+/// A filter by these options, with an auditor who writes the bytes that did not pass into this
+/// book; at the beginning of a stream. It takes no memory but for rows that may be written again:
+/// if that is refused, the first call says so.
 pub fn sanitizing<P: Admit<A> + Copy + Drop, B: Book<A> + Drop, A: Allocator + Copy>(
     alloc: A,
     options: FilterOptions<P>,

@@ -3,7 +3,7 @@
 use esc_filter::StreamFilter;
 use std::alloc::{AllocError, Allocator};
 
-/// One filter or another, as what takes a stream in chunks.
+/// One filter or another, as a taker of a stream in chunks.
 #[derive(Drop)]
 pub enum Either<F, G> {
     /// The one.

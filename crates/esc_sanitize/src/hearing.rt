@@ -1,4 +1,4 @@
-//! A filter of what a stream becomes by its encoding, and the auditor of that.
+//! A filter of the decoded stream, and its auditor.
 ghost use Rattle.std.specs.Prelude.{◌≡◌, ◌++◌, ℕ, List, [], OnErr, OnOk};
 ghost use Rattle.fallible_alloc.specs.Refusals.{Refused};
 
@@ -9,7 +9,7 @@ use esc_decode::Decoding;
 use esc_filter::{Admit, StreamFilter};
 use std::alloc::{AllocError, Allocator, Global};
 
-/// Feeds a filter what a stream becomes by options, and tells an auditor of that, and of the text
+/// Feeds a filter the form of a stream by options, and tells an auditor of that, and of the text
 /// that the filter has.
 #[derive(Drop)]
 pub struct Hearing<F, P, B, A: Allocator = Global> {

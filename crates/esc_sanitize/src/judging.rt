@@ -12,8 +12,8 @@ use esc_filter::Admit;
 use esc_segments::Segment;
 use std::alloc::{AllocError, Allocator, Global};
 
-/// Says what becomes of a segment: what the filter does, but that what is not in the output as
-/// itself may be shown.
+/// Judges a segment as the filter does, but that bytes that are not in the output as themselves may
+/// be shown.
 #[derive(Drop)]
 pub struct Judging<P, A: Allocator = Global> {
     policy: PolicyJudge<P, A>,

@@ -1,4 +1,4 @@
-//! A law of what is written.
+//! A law of the output.
 ghost use Rattle.esc_sanitize.specs.Written.{IsOfTokens};
 ghost use Rattle.esc_sanitize.specs.declared.options.FilterOptions.{FilterOptions};
 

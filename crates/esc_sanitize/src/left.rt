@@ -15,7 +15,7 @@ pub enum Left<A: Allocator = Global> {
     All,
     /// The rest of its lines.
     Rows(A, LineCollapser<A>),
-    /// The same of a text that has ended: what its end added, and how much of what was printed
+    /// The same of a text that has ended: the addition of its end, and how much of the printed text
     /// stands in no row, if that is counted.
     Last(String<A>, u64),
     /// Nothing, since memory for its rows was refused.

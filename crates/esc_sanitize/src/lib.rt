@@ -1,6 +1,6 @@
 //! The filter of the program `escfilter`, for programs of one's own: a stream in chunks, line by
-//! line or as one, in its encoding; what does not pass left out or shown in place; lines that are
-//! written again as a terminal leaves them; and the account of every byte of it.
+//! line or as one, in its encoding; bytes that do not pass left out or shown in place; lines that
+//! are written again as a terminal leaves them; and the account of every byte of it.
 //!
 //! [`FilterOptions`] say how a stream is filtered, and a [`Sanitizer`] filters one, chunk by chunk.
 //! [`sanitize_stream`] does so from a reader to a writer.

@@ -9,7 +9,7 @@ use line_collapse::Window;
 
 const DEFAULT_LIMIT: usize = 1_048_576;
 
-/// How a stream is filtered: what the options of the program `escfilter` say of that.
+/// How a stream is filtered: the options of the program `escfilter` for that.
 #[derive(Clone, Copy)]
 pub struct FilterOptions<P> {
     /// The values that pass: a [`Policy`], [`Groups`](esc_filter::Groups), or an
@@ -19,9 +19,9 @@ pub struct FilterOptions<P> {
     pub limit: usize,
     /// Whether each line is a stream of its own, so that no string takes away the lines after it.
     pub by_lines: bool,
-    /// Whether, by lines, a rendition that goes on over a line feed is written again where the next
-    /// line begins, so that a line looks as it does in the stream, and also by itself; else each
-    /// line begins plain.
+    /// Whether, by lines, a rendition that goes on over a line feed is written again at the
+    /// beginning of the next line, so that a line looks as it does in the stream, and also by
+    /// itself; else each line begins plain.
     pub resumes: bool,
     /// The text in place of characters and carriage returns that hide or reorder text.
     pub guard: Guard,
@@ -30,7 +30,7 @@ pub struct FilterOptions<P> {
     /// do not pass are shown, the program reads a stream of UTF-8 in the latter, so that it
     /// replaces none.
     pub encoding: Encoding,
-    /// How what does not pass is shown in its place; where none, it is left out.
+    /// How bytes that do not pass are shown in their place; with none, they are left out.
     pub show: Option<Marking>,
     /// The screen that the text is collapsed on, as for progress bars: only the rows that it leaves
     /// are written. Without one all of the text is written. With one, the program takes the stream
@@ -41,7 +41,7 @@ pub struct FilterOptions<P> {
     /// screen obeys. If it counts and an account is kept, text that passed and stands in no row
     /// counts as overwritten.
     pub window: Option<Window>,
-    /// Whether an account is kept of what became of each byte. It costs time and memory.
+    /// Whether an account of the fate of each byte is kept. It costs time and memory.
     pub audits: bool,
 }
 
@@ -65,7 +65,7 @@ impl FilterOptions<Policy> {
 }
 
 impl<P> FilterOptions<P> {
-    /// The same, where this says what passes.
+    /// The same, with this policy.
     pub fn with_policy<Q>(self, policy: Q) -> FilterOptions<Q>
     where
         P: Drop,

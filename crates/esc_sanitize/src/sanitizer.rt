@@ -12,9 +12,9 @@ use std::alloc::{Allocator, Global};
 /// Takes a stream in whatever chunks it comes, and has for each the text that it adds, as the
 /// program `escfilter` writes it under these options; and keeps the account of the stream.
 ///
-/// It keeps what its filter keeps of an unfinished sequence or line, at most a few times the limit
+/// It keeps as much as its filter of an unfinished sequence or line, at most a few times the limit
 /// of the options, the text of the last chunk, and for the account the line that is unfinished with
-/// its text, or the unfinished segment; and where rows may be written again these.
+/// its text, or the unfinished segment; and the rows that may be written again.
 #[derive(Drop)]
 pub struct Sanitizer<P, A: Allocator = Global> {
     staged: Sanitizing<P, NoBook, A>,
@@ -28,7 +28,7 @@ impl<P: Admit<A> + Drop, A: Allocator + Copy> Sanitizer<P, A> {
     ghost use Rattle.esc_sanitize.specs.Written.{going_of, text_of};
 
     /// A sanitizer at the beginning of a stream. It takes no memory, but for rows that may be
-    /// written again: where that is refused, the first call says so.
+    /// written again: if that is refused, the first call says so.
     pub fn new(alloc: A, options: FilterOptions<P>) -> Sanitizer<P, A>
     where
         P: Copy,
@@ -42,7 +42,7 @@ impl<P: Admit<A> + Drop, A: Allocator + Copy> Sanitizer<P, A> {
         }
     }
 
-    /// Takes `bytes`. What they add to the text of the stream so far is then the
+    /// Takes `bytes`. Their addition to the text of the stream so far is then the
     /// [`output`](Self::output).
     ///
     /// `ParseError::Memory` says that a request for memory was refused, and `ParseError::Failed`
@@ -73,9 +73,9 @@ impl<P: Admit<A> + Drop, A: Allocator + Copy> Sanitizer<P, A> {
         }
     }
 
-    /// Ends the stream. What that adds to its text is then the [`output`](Self::output): what was
-    /// unfinished, as far as it is shown, what takes back what the stream left changed at a
-    /// terminal, and the rows that are left.
+    /// Ends the stream. The addition of the end to its text is then the [`output`](Self::output):
+    /// the unfinished rest, as far as it is shown, the resets of the state that the stream left
+    /// changed at a terminal, and the rows that are left.
     ///
     /// The errors are those of [`feed`](Self::feed). After `Ok` too every call returns `Failed`.
     pub fn finish(&mut self) -> Result<(), ParseError>

@@ -1,4 +1,4 @@
-//! A filter with its auditor, and what is left of the lines of its text.
+//! A filter with its auditor, and the rest of the lines of its text.
 ghost use Rattle.std.specs.Prelude.{◌≡◌, ◌++◌, ℕ, List, [], OnErr, OnOk};
 ghost use Rattle.fallible_alloc.specs.Refusals.{Refused};
 
@@ -10,7 +10,7 @@ use esc_account::Book;
 use esc_filter::{Admit, StreamFilter};
 use std::alloc::{AllocError, Allocator, Global};
 
-/// A filter of a stream with its auditor, and what is left of the lines of its text.
+/// A filter of a stream with its auditor, and the rest of the lines of its text.
 #[derive(Drop)]
 pub struct Staged<F, P, B, A: Allocator = Global> {
     hearing: Hearing<F, P, B, A>,

@@ -39,10 +39,10 @@ pub struct Sanitized<P, B, A: Allocator = Global> {
 /// [`filter_stream`](esc_filter::filter_stream). If the policy admits no more than `Policy::Color`,
 /// the output is made of characters, renditions and links.
 ///
-/// On `Ok` the auditor has the account of the stream by the options, where they ask for one and it
-/// has less than 2^62 bytes: of the lines of what the stream becomes by its encoding, each with
-/// what passed of it before rows were written again, or of the cut of that. The sums add up to its
-/// length. What did not pass was written into the book.
+/// On `Ok` the auditor has the account of the stream by the options, if they ask for one and it has
+/// less than 2^62 bytes: of the lines of the decoded stream, each with the text that passed of it
+/// before rows were written again, or of its cut. The sums add up to its length. The bytes that did
+/// not pass were written into the book.
 pub fn sanitize_stream<
     P: Admit<A> + Copy + Drop,
     B: Book<A> + Drop,

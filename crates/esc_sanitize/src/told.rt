@@ -1,4 +1,4 @@
-//! A filter with its auditor, as what takes a stream in chunks.
+//! A filter with its auditor, as a taker of a stream in chunks.
 ghost use Rattle.std.specs.Prelude.{◌≡◌, ℕ, List};
 ghost use Rattle.esc_account.specs.Ways.{Way, silent_way};
 ghost use Rattle.esc_decode.specs.declared.encoding.Encoding.{Encoding as Coding};

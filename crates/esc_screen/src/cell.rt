@@ -5,14 +5,14 @@ ghost use Rattle.esc_screen.specs.Cells.{blank, cell, drawn_cell, is_joined, joi
 use crate::content::Content;
 use crate::marks::Marks;
 
-/// A cell: what stands in it, and how it looks.
+/// A cell: its content and its look.
 #[derive(Clone, Copy)]
 pub struct Cell {
     /// Its content.
     pub content: Content,
     /// How it looks: a number that the caller chose.
     pub look: u16,
-    /// Whether its row goes on in the next one, where it is the last cell of the row: the character
+    /// Whether its row goes on in the next one, if it is the last cell of the row: the character
     /// after it wrapped.
     pub joined: bool,
 }

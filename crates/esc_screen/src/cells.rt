@@ -115,7 +115,7 @@ pub(crate) fn put_both(cells: &mut [Cell], at: usize, c: char, look: u16)
     }
 }
 
-/// Says that the row goes on in the next one, where a column is its last.
+/// Says that the row goes on in the next one, if a column is its last.
 pub(crate) fn join(cells: &mut [Cell], at: usize)
     ensures { cells.new ≡ joined_at at cells.old }
 {
@@ -144,7 +144,7 @@ fn mark_cell(cells: &mut [Cell], at: usize, mark: char)
     }
 }
 
-/// Puts a mark on the character of which a column is part.
+/// Puts a mark on the character in a column.
 pub(crate) fn mark(cells: &mut [Cell], at: usize, mark: char)
     ensures { cells.new ≡ marked_cells at mark cells.old }
 {

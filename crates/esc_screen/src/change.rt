@@ -8,10 +8,10 @@ pub enum Change {
     Index,
     /// A row up; at the top margin the rows within the margins move down: RI.
     ReverseIndex,
-    /// As [`Change::Index`], and to the first column where [`Mode::NewLine`](crate::Mode::NewLine)
-    /// is set or the screen [returns](crate::Screen::returning): LF.
+    /// As [`Change::Index`], and to the first column if [`Mode::NewLine`](crate::Mode::NewLine) is
+    /// set or the screen [returns](crate::Screen::returning): LF.
     LineFeed,
-    /// As [`Change::Index`], and to the first column where the mode is set: VT, FF.
+    /// As [`Change::Index`], and to the first column if the mode is set: VT, FF.
     FormFeed,
     /// As [`Change::Index`], and to the first column: NEL.
     NextLine,
@@ -41,11 +41,11 @@ pub enum Change {
     ScrollUp(u16),
     /// The rows within the margins move down by so many: SD.
     ScrollDown(u16),
-    /// The cells of the rows within the margins, where the cursor is within them, move so many
-    /// columns back: SL.
+    /// The cells of the rows within the margins, if the cursor is within them, move so many columns
+    /// back: SL.
     ScrollLeft(u16),
-    /// The cells of the rows within the margins, where the cursor is within them, move so many
-    /// columns on: SR.
+    /// The cells of the rows within the margins, if the cursor is within them, move so many columns
+    /// on: SR.
     ScrollRight(u16),
     /// So many blank columns are put in at the cursor, within the margins: DECIC.
     InsertColumns(u16),

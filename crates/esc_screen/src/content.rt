@@ -11,7 +11,7 @@ pub enum Content {
     Blank,
     /// A character of one column, and the marks on it.
     Narrow(char, Marks),
-    /// A character of two columns, of which this is the first, and the marks on it.
+    /// A character of two columns, in the first of them, and the marks on it.
     Wide(char, Marks),
     /// The second column of the character before.
     Rest,

@@ -56,7 +56,7 @@ impl Cursor {
         }
     }
 
-    /// As at first, but where it is.
+    /// As at first, but for its place.
     pub fn softly_reset(self) -> Cursor
         ensures { result ≡ softly_reset self }
     {

@@ -26,7 +26,7 @@ impl Marks {
         }
     }
 
-    /// With one more, which is left out where there are two.
+    /// With one more, which is left out if there are two.
     pub fn with(self, mark: char) -> Marks
         ensures { result ≡ more_marks mark self }
     {

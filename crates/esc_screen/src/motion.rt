@@ -1,6 +1,6 @@
 //! Movements of the cursor.
 
-/// A movement of the cursor. Rows and columns are counted from 0, and what would go past the screen
+/// A movement of the cursor. Rows and columns are counted from 0, and a movement past the screen
 /// stops at its edge.
 #[derive(Clone, Copy)]
 pub enum Motion {

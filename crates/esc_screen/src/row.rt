@@ -85,7 +85,7 @@ impl<A: Allocator> Row<A> {
         self.used = self.used.max(at + 2);
     }
 
-    /// Says that it goes on in the next one, where a column is its last.
+    /// Says that it goes on in the next one, if a column is its last.
     pub fn join(&mut self, at: usize)
         ensures { self.new ≡ joined_at at self.old }
     {
@@ -93,7 +93,7 @@ impl<A: Allocator> Row<A> {
         self.used = self.cells.len();
     }
 
-    /// Puts a mark on the character of which a column is part.
+    /// Puts a mark on the character in a column.
     pub fn mark(&mut self, at: usize, mark: char)
         ensures { self.new ≡ marked_cells at mark self.old }
     {

@@ -41,7 +41,7 @@ pub struct Screen<A: Allocator = Global> {
 }
 
 impl<A: Allocator + Copy> Screen<A> {
-    /// A blank screen of so many rows and columns, of which each should be 1 at least. It takes all
+    /// A blank screen of so many rows and columns, each of which should be 1 at least. It takes all
     /// the memory that it will ever have: for each row and column two cells.
     ///
     /// The error is that a request for memory was refused.
@@ -80,8 +80,8 @@ impl<A: Allocator + Copy> Screen<A> {
 }
 
 impl<A: Allocator> Screen<A> {
-    /// The same, where LF returns to the first column too, whatever the modes are: as for a log,
-    /// in which no terminal's driver put a CR before LF.
+    /// The same, but LF returns to the first column too, whatever the modes are: as for a log, in
+    /// which no terminal's driver put a CR before LF.
     pub fn returning(mut self) -> Screen<A>
         ensures grid { grid_of result ≡ grid_of self }
         ensures size { size_of result ≡ record (size_of self) { returns = true } }
@@ -104,7 +104,7 @@ impl<A: Allocator> Screen<A> {
         self.max_columns
     }
 
-    /// The cells of a row, from 0 on; none where there is no such row.
+    /// Returns the cells of a row, from 0 on; none if there is no such row.
     pub fn row(&self, at: usize) -> &[Cell]
         ensures { result.now ≡ get_or self.now.rows.items at [] }
     {
@@ -143,7 +143,7 @@ impl<A: Allocator> Screen<A> {
         self.main_rows().len()
     }
 
-    /// The cells of a row of the main screen, from 0 on, whether it is seen or not; none where
+    /// Returns the cells of a row of the main screen, from 0 on, whether it is seen or not; none if
     /// there is no such row.
     pub fn main_row(&self, at: usize) -> &[Cell]
         ensures { result.now ≡ get_or (main_rows (grid_of self.now)) at [] }

@@ -2,7 +2,7 @@
 
 use crate::mode::Mode;
 
-/// A change of the state of a screen that moves no character but where a screen comes in place of
+/// A change of the state of a screen that moves no character unless a screen comes in place of
 /// another.
 #[derive(Clone, Copy)]
 pub enum Setting {

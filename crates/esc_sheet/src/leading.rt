@@ -37,7 +37,7 @@ fn is_address_char(byte: &u8) -> bool
     0x20 < *byte && *byte < 0x7f
 }
 
-/// Appends what begins a link with an id, or without one, and an address; with neither, what ends
+/// Appends the begin of a link with an id, or without one, and an address; with neither, the end of
 /// one. The error leaves nothing of the text.
 pub(crate) fn append_lead(
     text: &mut String,

@@ -93,7 +93,7 @@ impl Log {
     }
 }
 
-/// Adds each row, and ends the line where the row does not go on.
+/// Adds each row, and ends the line if the row does not go on.
 impl Rows for Log {
     ghost takes = { λ p r q. Unit {0} };
 

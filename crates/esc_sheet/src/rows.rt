@@ -113,7 +113,7 @@ fn push_seen<A: Allocator + Copy>(
     push_content(sheet, cell.content)
 }
 
-/// Adds what stands in a cell: a space where it is blank, and nothing for the second column of a
+/// Adds the content of a cell: a space if it is blank, and nothing for the second column of a
 /// character.
 pub(crate) fn push_content(sheet: &mut Sheet, content: Content) -> Result<(), AllocError> {
     match content {

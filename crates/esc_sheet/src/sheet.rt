@@ -87,7 +87,7 @@ impl Sheet {
         fallible_alloc::push_str(&mut self.text, "\n")
     }
 
-    /// Adds what makes a look where another holds.
+    /// Adds the sequence that makes a look while another holds.
     pub fn push_change(&mut self, from: &Look, to: &Look) -> Result<(), AllocError> {
         if is_same(from, to) {
             return Ok(());

@@ -1,4 +1,4 @@
-//! This module says what a screen shows.
+//! The view of a screen.
 
 use esc_links::Hyperlink;
 use esc_screen::{Cell, Content, Screen};
@@ -7,12 +7,12 @@ use esc_style::Look;
 use esc_terminal::Styles;
 use std::alloc::{Allocator, Global};
 
-/// A view is what a screen shows: its cells, their looks, and the title of its window.
+/// The visible part of a screen: its cells, their looks, and the title of its window.
 #[derive(Clone, Copy)]
 pub struct View<'a> {
     /// The screen.
     pub screen: &'a Screen,
-    /// Says how its cells look and where they lead, by the numbers that they have.
+    /// The looks of its cells and their links, by the numbers that they have.
     pub styles: &'a Styles,
     /// The title of its window, if it has one.
     pub title: Option<&'a str>,
@@ -56,7 +56,7 @@ impl<'a> View<'a> {
     }
 }
 
-/// Says how cells look and where they lead, by their numbers.
+/// The looks of cells and their links, by their numbers.
 #[derive(Clone, Copy)]
 pub(crate) struct Seen<'a, A: Allocator> {
     /// The looks and links that have these numbers.

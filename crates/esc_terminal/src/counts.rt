@@ -4,7 +4,7 @@ ghost use Rattle.esc_terminal.specs.Steps.{count, place};
 
 use typed_functions::Ordinal;
 
-/// How many, where a screen counts to 65,535.
+/// A number, if a screen counts to 65,535.
 #[inline]
 pub(crate) fn count(n: Ordinal) -> u16
     ensures { result ≡ count n }

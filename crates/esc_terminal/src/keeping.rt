@@ -117,7 +117,7 @@ impl<R: Rows, A: Allocator + Copy> Keeping<R, A> {
     }
 }
 
-/// Each action does what its value does.
+/// Each action has the effect of its value.
 impl<R: Rows, A: Allocator + Copy> Sink<Action<A>> for Keeping<R, A> {
     ghost is_ready = { λ _. Unit {0} };
 

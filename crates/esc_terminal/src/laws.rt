@@ -15,7 +15,7 @@ pub fn is_always_whole<A: Allocator>()
     ensures { IsAlwaysWhole A }
 {}
 
-/// A stream in two chunks does what the first does and then the second.
+/// A stream in two chunks has the effect of the first and then that of the second.
 pub fn goes_on<A: Allocator>()
     ensures { GoesOn A }
 {}

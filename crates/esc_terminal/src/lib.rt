@@ -1,4 +1,4 @@
-//! A terminal's screen from a stream of bytes: what each value of the stream does to an
+//! A terminal's screen from a stream of bytes: the effect of each value of the stream on an
 //! [`esc_screen::Screen`], by the names of ECMA-48, of DEC's manual of the VT510 and of xterm's
 //! "Control Sequences".
 //!

@@ -10,9 +10,9 @@ use esc_values::{Error, Items};
 use fallible_alloc::extend;
 use std::alloc::{AllocError, Allocator};
 
-/// The link of a command of these parts that has no other reading, if it is one: its address is
-/// what comes after the parameters, with `;` between the parts. The error is that memory was
-/// refused.
+/// Returns the link of a command of these parts that has no other reading, if it is one: its
+/// address is the part after the parameters, with `;` between the parts. The error is that memory
+/// was refused.
 pub(crate) fn link_in_parts<A: Allocator + Copy>(
     alloc: A,
     parts: &[Items<u8, A>],

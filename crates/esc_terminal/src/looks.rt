@@ -96,7 +96,7 @@ impl<A: Allocator> Looks<A> {
     }
 }
 
-/// How a cell looks that is erased where characters look so.
+/// Returns the look of an erased cell if characters look so.
 pub(crate) fn erased_look(look: &Look) -> Look
     ensures { result ≡ erased_look look.now }
 {

@@ -10,7 +10,7 @@ use esc_values::CsiParam;
 use std::alloc::{AllocError, Allocator};
 use typed_functions::Function;
 
-/// Each action does what its value does.
+/// Each action has the effect of its value.
 impl<A: Allocator + Copy> Sink<Action<A>> for State<A> {
     ghost is_ready = { λ _. Unit {0} };
 

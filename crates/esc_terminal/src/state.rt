@@ -33,14 +33,14 @@ use memchr::memchr;
 use std::alloc::{AllocError, Allocator, Global};
 use typed_functions::{Function, ModeChange, Modes, Renditions, TabChange};
 
-/// The screen of a terminal, its title, and what it was asked for since it was cleared.
+/// The screen of a terminal, its title, and its requests since they were cleared.
 #[derive(Drop)]
 pub(crate) struct State<A: Allocator = Global> {
     /// The screen.
     pub screen: Screen<A>,
-    /// How its cells look and where they lead, by the numbers that they have.
+    /// The looks of its cells and their links, by the numbers that they have.
     pub styles: Styles<A>,
-    /// The title of its window, where it has one.
+    /// The title of its window, if it has one.
     pub title: Option<Text<A>>,
     /// The requests to it.
     pub requests: Vec<Request, A>,
@@ -67,7 +67,7 @@ impl<A: Allocator + Copy> State<A> {
 }
 
 impl<A: Allocator> State<A> {
-    /// The same, where LF returns to the first column.
+    /// The same, but LF returns to the first column.
     pub fn returning(self) -> State<A>
         ensures grid { grid_of result.screen ≡ grid_of self.screen }
         ensures size { size_of result.screen ≡ record (size_of self.screen) { returns = true } }
@@ -222,7 +222,7 @@ impl<A: Allocator> State<A> {
         Ok(())
     }
 
-    /// Notes what is asked for, where something is.
+    /// Notes a request, if there is one.
     pub fn ask(&mut self, request: Option<Request>) -> Result<(), AllocError>
         ensures ok { OnOk result (Does self.old [] (known_in self.old) self.old.title
             (request_list request) self.new) }
@@ -237,7 +237,7 @@ impl<A: Allocator> State<A> {
         }
     }
 
-    /// Takes what a control sequence or an escape sequence asks for.
+    /// Takes the requests of a control sequence or an escape sequence.
     pub fn take_function(&mut self, function: Function<'_>) -> Result<(), AllocError>
         ensures ok { OnOk result (TakesAll self.old (function_value function.entry) self.new) }
         ensures refused { OnErr result (Refused A) }

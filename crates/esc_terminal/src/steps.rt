@@ -171,8 +171,8 @@ pub fn choice_step(change: TabChange, number: Option<u64>) -> Step
     }
 }
 
-/// The step that inserts, deletes, erases or scrolls. Nothing is protected, so what erases the rest
-/// erases all.
+/// Returns the step that inserts, deletes, erases or scrolls. Nothing is protected, so a step that
+/// erases the rest erases all.
 pub fn edit_step(edit: Edit) -> Step
     ensures { result ≡ edit_step edit }
 {
@@ -313,7 +313,8 @@ fn private_step(on: bool, number: u64) -> Step
     }
 }
 
-/// The step that a function is, where it is one and asks for no look; the cursor is at this place.
+/// Returns the step that a function is, if it is one and asks for no look; the cursor is at this
+/// place.
 pub fn one_step(from: Place, function: Function<'_>) -> Option<Step>
     ensures { result ≡ one_step from (function_value function.entry) }
 {

@@ -1,4 +1,4 @@
-//! How characters look and where they lead, which the cells of a screen have the numbers of.
+//! The looks and links of characters, whose numbers the cells of a screen have.
 ghost use Rattle.std.specs.Prelude.{◌≡◌, OnErr, OnOk, IfOk, map};
 ghost use Rattle.std.specs.Option.{option_map};
 ghost use Rattle.esc_terminal.specs.Links.{Known, first_known, known_look, known_of, known_target, lead_number, lead_of, link_number, linked_number, look_number, target, with_lead, with_linked};
@@ -21,7 +21,7 @@ pub struct Linked {
     pub link: u16,
 }
 
-/// How the characters of a terminal look, and where they lead: a cell has the number of both.
+/// The looks and links of the characters of a terminal: a cell has the number of both.
 ///
 /// At most 4,096 looks are kept, and a further one is plain; 1,024 links; and 4,096 looks of
 /// characters that lead somewhere: those of a further one lead nowhere. Each link is kept once.
@@ -119,7 +119,7 @@ impl<A: Allocator> Styles<A> {
         self.looks.keep(look)
     }
 
-    /// The number of a link, which is kept, where it leads somewhere.
+    /// Returns the number of a link, which is kept, if it leads somewhere.
     pub(crate) fn keep_link(
         &mut self,
         link: Option<Hyperlink<A>>,

@@ -19,7 +19,7 @@ const MOST: usize = 0x1000;
 /// Takes a stream in whatever chunks it comes, and has the screen that a terminal shows then.
 ///
 /// It keeps a screen of its size, which is made at once, at most 4,096 looks and 1,024 links of at
-/// most 4,096 bytes, a title of at most as many, and what the last chunk asked for.
+/// most 4,096 bytes, a title of at most as many, and the requests of the last chunk.
 #[derive(Drop)]
 pub struct Terminal<A: Allocator = Global> {
     parser: Parser<A>,
@@ -47,7 +47,7 @@ impl<A: Allocator + Copy> Terminal<A> {
     }
 
     /// A terminal of so many columns and rows for a log: LF returns to the first column too,
-    /// whatever the mode LNM is, as where a terminal's driver puts CR before it. VT and FF do not.
+    /// whatever the mode LNM is, as if a terminal's driver put CR before it. VT and FF do not.
     ///
     /// The error is that a request for memory was refused.
     pub fn for_log(alloc: A, columns: u16, rows: u16) -> Result<Terminal<A>, AllocError>
@@ -127,7 +127,7 @@ impl<A: Allocator> Terminal<A> {
         }
     }
 
-    /// The cells of a row, from 0 on; none where there is no such row.
+    /// Returns the cells of a row, from 0 on; none if there is no such row.
     pub fn row(&self, at: usize) -> &[Cell] {
         match &self.state {
             Some(state) => state.screen.row(at),
@@ -135,7 +135,8 @@ impl<A: Allocator> Terminal<A> {
         }
     }
 
-    /// How its cells look and where they lead, by the numbers that they have; none after an error.
+    /// Returns the looks and the links of its cells, by the numbers that they have; none after an
+    /// error.
     pub fn styles(&self) -> Option<&Styles<A>>
         ensures value { option_map (λ s. s.now) result ≡ styles_in self.now.state }
         ensures shown { IfSome result (λ s. IsSomeAnd self.now.state (λ q. q.styles ≡ s.now)) }
@@ -146,7 +147,7 @@ impl<A: Allocator> Terminal<A> {
         }
     }
 
-    /// The title of its window, where it has one.
+    /// Returns the title of its window, if it has one.
     pub fn title(&self) -> Option<&str>
         ensures { option_map (λ t. t.now) result ≡ title_in self.now.state }
     {

@@ -20,8 +20,8 @@ use esc_segments::{Segment, SegmentKind};
 use esc_values::CsiParam;
 use std::alloc::Global;
 
-/// The name of a control sequence of which the policy knows by its parameters that nothing is
-/// written.
+/// Returns the name of a control sequence if the policy knows by its parameters that nothing is
+/// written of it.
 pub fn name_at_once(options: &FilterOptions<Choice<'_>>, segment: Segment<'_>) -> Option<Name>
     ensures { IfSome result (IsOutFirst options.now segment.entry) }
 {

@@ -22,7 +22,7 @@ const BYTES: usize = 48;
 
 const DIGITS: usize = 64;
 
-/// Lines of what did not pass of streams, which are written as it is found.
+/// Lines about the losses of streams, which are written as they are found.
 #[derive(Drop)]
 pub struct Events {
     aside: Aside,
@@ -95,7 +95,7 @@ impl Events {
         Ok(())
     }
 
-    /// Writes what was found last, where that is not written yet.
+    /// Writes the event that was found last, if it is not written yet.
     pub fn end(&mut self) {
         if let Some(event) = self.found {
             put_event(&self.stream, event, &self.bytes, &mut self.aside);

@@ -36,7 +36,7 @@ pub struct Failing {
 }
 
 impl Failing {
-    /// Those of what is not in the output, in any spelling.
+    /// The fates of bytes that are not in the output, in any spelling.
     pub const LESS: Failing = Failing {
         respelled: false,
         shown: true,
@@ -46,7 +46,7 @@ impl Failing {
         overwritten: true,
     };
 
-    /// Those of the words of `FAILING` whose bits are set, or `LESS` where none is.
+    /// The fates of the words of `FAILING` whose bits are set, or `LESS` if none is.
     pub fn named(words: u64) -> Failing
         ensures { result ≡ failing_of words }
     {
@@ -120,8 +120,8 @@ impl Gate {
         is_met
     }
 
-    /// The status of the program that would end with this one otherwise: 3 exactly where it did
-    /// what it was asked for, and some byte of its streams had such a fate.
+    /// Returns the status of the program that would end with this one otherwise: 3 exactly if it
+    /// did all its work, and some byte of its streams had such a fate.
     pub fn status(self, status: u8) -> u8
         ensures done { (k : Fates) (xs : List Counts) → WasTold k xs self → status ≡ 0
             → result ≡ (if list_any (has_failure k) xs then 3 else 0) }

@@ -7,8 +7,8 @@ use crate::saying::{put, put_number};
 use esc_account::{Account, Fate, Place, Row, Sums};
 use std::io::Write;
 
-/// Writes a line on `faults`: an object that says of the stream of this name what `tell_text` says,
-/// and whether all of the stream was read.
+/// Writes a line on `faults`: an object that says of the stream of this name the same as
+/// `tell_text`, and whether all of the stream was read.
 pub fn tell_json<E: Write>(
     account: Account,
     rows: &Rows,
@@ -27,7 +27,8 @@ pub fn tell_json<E: Write>(
     put("}\n", faults);
 }
 
-/// Writes a string: what a terminal does not show as itself, a quote and a backslash are escaped.
+/// Writes a string: characters that a terminal does not show as themselves, a quote and a backslash
+/// are escaped.
 pub fn put_text<E: Write>(text: &str, faults: &mut E) {
     put("\"", faults);
     for c in text.chars() {

@@ -1,4 +1,4 @@
-//! The names of files in place of what passes of them.
+//! The names of files in place of their text.
 
 use crate::options::Options;
 use command_line::Shown;
@@ -9,7 +9,7 @@ use std::io::Write;
 #[derive(Drop)]
 pub struct Passage<'a, W> {
     pub output: &'a mut W,
-    /// Whether what is written goes to the output.
+    /// Whether the text goes to the output.
     pub is_open: bool,
 }
 
@@ -38,7 +38,8 @@ pub enum Names {
     Lines,
     /// As they are, each with a zero byte after it.
     Nulls,
-    /// For a terminal: what does not show as itself is escaped, and a line feed comes after each.
+    /// For a terminal: characters that do not show as themselves are escaped, and a line feed comes
+    /// after each.
     Shown,
 }
 

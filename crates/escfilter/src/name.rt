@@ -26,11 +26,11 @@ pub enum Key {
     Bytes([u8; 3]),
 }
 
-/// The name of what an action asks for. All but the keys are texts of tables, so without these
+/// The name of the request of an action. All but the keys are texts of tables, so without these
 /// there are not many.
 #[derive(Clone, Copy, PartialEq, Eq)]
 pub struct Name {
-    /// Its name, as `DSR`; empty where it has none. It comes first, since names are compared by it
+    /// Its name, as `DSR`; empty if it has none. It comes first, since names are compared by it
     /// first.
     pub name: &'static str,
     /// Its kind, as `CSI`.
@@ -64,7 +64,7 @@ impl Name {
         }
     }
 
-    /// Its words, where it has no key.
+    /// Its words, if it has no key.
     pub fn said(self) -> &'static str {
         if self.has_key() { "" } else { self.words }
     }
@@ -96,8 +96,8 @@ fn deceiving() -> Name
     named("character", "", "that hides or reorders text")
 }
 
-/// The name of a segment of this kind and these bytes that means nothing of its own, or of which
-/// other characters are written.
+/// Returns the name of a segment of this kind and these bytes that means nothing of its own, or
+/// whose characters are written as others.
 pub fn kind_name(kind: SegmentKind, bytes: &[u8]) -> Name
     ensures { title_of result ≡ kind_title kind bytes.now }
 {
@@ -193,7 +193,7 @@ fn unnamed(kind: &'static str) -> Name
     named(kind, "", "without a name")
 }
 
-/// The name of what an action asks for.
+/// Returns the name of the request of an action.
 pub fn name_of(action: &Action) -> Name
     ensures { title_of result ≡ value_title (value_of action.now) }
 {

@@ -60,7 +60,7 @@ impl Display for Fault {
     }
 }
 
-/// The place where a recording is cut. All before it is filtered and written.
+/// The place in which a recording is cut. All before it is filtered and written.
 #[derive(Clone, Copy)]
 pub enum Cut {
     /// In the line with this number, which is left out.

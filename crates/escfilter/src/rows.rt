@@ -68,8 +68,8 @@ impl<'a> Rows<'a> {
         }
     }
 
-    /// The rows: where a report is asked for, they have all that the entries have of each fate, but
-    /// for what is respelled; one for each fate and name, in the order of the first of each, under
+    /// The rows: if a report is asked for, they have all that the entries have of each fate, but
+    /// for respelled bytes; one for each fate and name, in the order of the first of each, under
     /// the names that the segments tell.
     pub fn rows(&self) -> &[Row<Name>]
         ensures all { (es : List Told) → HasRows self.now es
@@ -88,8 +88,8 @@ impl<'a> Rows<'a> {
         self.events
     }
 
-    /// Returns the sequence or string that the end of the stream, of which this is the account,
-    /// leaves unfinished.
+    /// Returns the sequence or string that the end of the stream leaves unfinished; this is the
+    /// stream's account.
     pub fn open(&self, account: Account) -> Option<Open> {
         match self.open {
             Some(open) if open.end == bytes_of(account.sums) => Some(open),

@@ -8,7 +8,7 @@ pub fn put<E: Write>(text: &str, faults: &mut E) {
     let _ = faults.write_all(text.as_bytes());
 }
 
-/// Writes a number after what comes before it.
+/// Writes a number after the text before it.
 pub fn put_number<E: Write>(before: &str, number: u64, faults: &mut E) {
     put(before, faults);
     let _ = write!(faults, "{number}");

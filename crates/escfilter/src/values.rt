@@ -1,4 +1,4 @@
-//! Values of options of which the table of options does not say what they may be.
+//! Values of options for which the table of options has no words.
 
 use crate::failing::FAILING;
 use command_line::{Apart, Given, Wrong};
@@ -50,7 +50,7 @@ fn wrong_number<'a>(options: &[Given<'a>]) -> Option<Wrong<'a>> {
     None
 }
 
-/// The first word after an option that could take it, and takes what follows `=` alone.
+/// Returns the first word after an option that could take it, but takes only the word after `=`.
 pub fn apart_of<'a>(options: &[Given<'a>]) -> Option<Apart<'a>> {
     for given in options {
         if could_take(given.name, given.next) {
@@ -95,7 +95,7 @@ fn is_kind(word: &str) -> bool {
     false
 }
 
-/// How many rows a word names; where it is empty, the default.
+/// Returns the number of rows that a word names; if it is empty, the default.
 pub fn rows_of(word: &str) -> Option<usize> {
     if word.is_empty() {
         return Some(DEFAULT_ROWS);

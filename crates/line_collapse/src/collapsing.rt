@@ -1,4 +1,4 @@
-//! A filter, and what is left of the lines of its text.
+//! A filter, and the rest of the lines of its text.
 ghost use Rattle.std.specs.Prelude.{ℕ, ◌≡◌, List, [], IfOk, OnErr, max};
 ghost use Rattle.line_collapse.specs.Fed.{IsFed, HasConsumed, final_after, left_after};
 ghost use Rattle.line_collapse.specs.Fed.{added_by as added_by_collapse};
@@ -9,7 +9,7 @@ use crate::collapse::LineCollapser;
 use esc_filter::StreamFilter;
 use std::alloc::{AllocError, Allocator, Global};
 
-/// Feeds a stream to a filter, and gives what is left of the lines of the filter's text.
+/// Feeds a stream to a filter, and gives the rest of the lines of the filter's text.
 #[derive(Drop)]
 pub struct Collapsing<F, A: Allocator = Global> {
     inner: F,
@@ -34,7 +34,7 @@ impl<F: StreamFilter<A> + Drop, A: Allocator + Copy> Collapsing<F, A> {
     }
 
     /// Joins this collapse to this filter; both were fed nothing. Takes no memory, so that no
-    /// filter is lost where there is none for a collapse.
+    /// filter is lost for want of memory for a collapse.
     pub fn over(inner: F, collapse: LineCollapser<A>) -> Collapsing<F, A>
         ensures { (size : Size) (m c : List ℕ → List ℕ) → HasConsumed size [] collapse
             → F.gives inner m c [] → m [] ≡ [] → IsFed F.StreamFilter size m c [] result }

@@ -1,4 +1,4 @@
-//! From a stream to what is left of the lines of its filter.
+//! From a stream to the rest of the lines of its filter.
 ghost use Rattle.std.specs.Prelude.{IsErrOf, max};
 ghost use Rattle.esc_normal.specs.Streams.{Filters, IsEither, New};
 ghost use Rattle.line_collapse.specs.Fed.{final_after, left_after};
@@ -11,10 +11,10 @@ use esc_normal::Watched;
 use std::alloc::Allocator;
 use std::io::{Read, Write};
 
-/// Reads to the end, and writes what is left of the lines of what the filter, which was fed
-/// nothing, has of it, as [`pump`] does: after each read the rows that are final, and at the
-/// end those that are left, of which the last `rows`, of `columns` columns at most, may be written
-/// again. After an error the rows that are not final are not written.
+/// Reads to the end, and writes the rest of the lines of the filter's text, as [`pump`] does; the
+/// filter was fed nothing. After each read these are the rows that are final, and at the end those
+/// that are left: the last `rows`, of `columns` columns at most, may be written again. After an
+/// error the rows that are not final are not written.
 pub fn collapse_from<R: Read, W: Write, F: StreamFilter<A> + Drop, A: Allocator + Copy>(
     alloc: A,
     filter: F,

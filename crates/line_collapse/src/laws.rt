@@ -1,4 +1,4 @@
-//! Laws of what is left of lines. Each holds for every allocator `A`, which the type of the actions
+//! Laws of the rest of lines. Each holds for every allocator `A`, which the type of the actions
 //! names.
 ghost use Rattle.std.specs.Prelude.{◌≡◌, ℕ, List, false};
 ghost use Rattle.std.specs.List.{list_any};

@@ -4,7 +4,7 @@
 //!
 //! [`LineCollapser`] takes text in pieces, as a filter wrote it, and gives the text of the rows
 //! that are final. [`Collapsing`] is a filter and a collapse after it, and [`collapse_from`] reads
-//! a stream to its end and writes what is left of the lines of its filter.
+//! a stream to its end and writes the rest of the lines of its filter.
 //!
 //! ```text
 //! let mut collapse = LineCollapser::new(alloc, 32, 512)?;

@@ -28,7 +28,7 @@ fn cursor_rows<A: Allocator>(screen: &Screen<A>) -> usize
     }
 }
 
-/// How many rows of the main screen are left: up to the last one of which something is seen, and
+/// Counts the rows of the main screen that are left: up to the last one with something to see, and
 /// that of the cursor.
 pub(crate) fn count_left<A: Allocator + Copy>(screen: &Screen<A>, styles: &Styles<A>) -> usize
     ensures within { result ≤ length (main_rows (grid_of screen.now)) }

@@ -12,7 +12,7 @@ use screen_lines::Lines;
 use std::alloc::{AllocError, Allocator, Global};
 use text_tally::Tally;
 
-/// Takes rows: their text, and where there is a tally, how much that is.
+/// Takes rows: their text, and if there is a tally, how much that is.
 #[derive(Drop)]
 pub(crate) struct Taking<A: Allocator = Global> {
     /// The text.
@@ -81,7 +81,7 @@ fn keep_used<A: Allocator>(tally: &mut Option<Tally<A>>, cells: &[Cell], used: u
     keep(tally, &cells[..end]);
 }
 
-/// Counts what text more prints, where there is a tally.
+/// Counts the text that more text prints, if there is a tally.
 pub(crate) fn printed<A: Allocator + Copy>(
     tally: Option<Tally<A>>,
     text: &[u8],

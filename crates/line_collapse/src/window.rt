@@ -1,14 +1,13 @@
-//! The screen of which the lines are left.
+//! The screen whose lines are left.
 ghost use Rattle.std.specs.Prelude.{◌≡◌};
 ghost use Rattle.line_collapse.specs.Windows.{window_of};
 
 use esc_filter::Unicode;
 
-/// How many columns a screen has where nothing says how many.
+/// The columns of a screen if nothing says how many.
 pub const COLUMNS: usize = 512;
 
-/// The screen of a terminal of which the lines are left, and what is written of characters that
-/// deceive.
+/// The screen of a terminal whose lines are left, and the text in place of characters that deceive.
 #[derive(Clone, Copy)]
 pub struct Window {
     /// How many rows may be written again: 0 is as 1.
@@ -22,8 +21,8 @@ pub struct Window {
 }
 
 impl Window {
-    /// One of so many rows and columns, of which more than 65,535 are taken for so many, and this
-    /// is written of characters that deceive. Its text is counted. The screen is made at once, so
+    /// A screen of so many rows and columns, where more than 65,535 are taken for so many, and with
+    /// this choice for characters that deceive. Its text is counted. The screen is made at once, so
     /// its memory is rows times columns.
     pub fn new(rows: usize, columns: usize, characters: Unicode) -> Window
         ensures { result ≡ window_of rows columns characters }

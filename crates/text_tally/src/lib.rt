@@ -1,5 +1,5 @@
-//! How much text a terminal prints, and how much of it stands in rows: what a program printed and
-//! wrote over, erased or scrolled away is the difference.
+//! How much text a terminal prints, and how much of it stands in rows: the difference is the text
+//! that a program printed and wrote over, erased or scrolled away.
 //!
 //! A [`Tally`] counts the characters that a stream prints, and those of the cells of rows. A screen
 //! moves characters and loses them, and makes none but those that are printed, repeated (REP) or

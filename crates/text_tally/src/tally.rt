@@ -38,8 +38,8 @@ impl<A: Allocator + Copy> Tally<A> {
         }
     }
 
-    /// Counts what more of the stream prints. The error is that a request for memory was refused,
-    /// as that of a sequence may be.
+    /// Counts the text that more of the stream prints. The error is that a request for memory was
+    /// refused, as that of a sequence may be.
     pub fn print(&mut self, text: &[u8]) -> Result<(), AllocError>
         ensures given { (m n : ℕ) (s : List ℕ) (rs : List (List TheCell))
             → HasTallied m n s rs self.old

@@ -84,9 +84,9 @@ impl<A: Allocator> Screen<A> {
     }
 
     #[tactic(auto, using(crate::proofs::Scrolling::take_within))]
-    /// How many rows a step, other than [`Step::Repeat`], is going to scroll off the top of the
-    /// main screen: the first ones, as they are now. None goes off the alternate screen, nor where
-    /// the first row is above the margins.
+    /// Counts the rows that a step, other than [`Step::Repeat`], is going to scroll off the top of
+    /// the main screen: the first ones, as they are now. None goes off the alternate screen, nor
+    /// while the first row is above the margins.
     pub fn leaving(&self, step: Step) -> usize
         ensures within { result ≤ length self.now.rows.items }
         ensures rows { take result self.now.rows.items
@@ -117,7 +117,7 @@ impl<A: Allocator> Screen<A> {
         }
     }
 
-    /// Says of the row of the cursor that it goes on in the next one, where a step, other than
+    /// Says of the row of the cursor that it goes on in the next one, if a step, other than
     /// [`Step::Repeat`], is going to wrap: the rows that it scrolls off are those of the screen
     /// then. The step does the same before all else.
     pub fn join_for(&mut self, step: Step)
