@@ -304,8 +304,8 @@ export interface ApcEvent {
   text: Uint8Array;
 }
 /** A string ended that was longer than the limit: its event is left out. */
-export interface LimitPassed {
-  type: "LimitPassed";
+export interface LimitEvent {
+  type: "Limit";
 }
 
 export type Event =
@@ -318,7 +318,7 @@ export type Event =
   | DataEvent
   | DcsEndEvent
   | ApcEvent
-  | LimitPassed;
+  | LimitEvent;
 
 /** A parser of a stream that comes in chunks. Of one stream take the events or the actions. */
 export class Parser extends Kept {
@@ -419,7 +419,7 @@ export type Action =
   | ({ type: "Sixel" } & Sixel)
   | { type: "XtGetTcap"; names: string[] }
   | { type: "KittyImage"; image: KittyImage }
-  | LimitPassed;
+  | LimitEvent;
 
 export type DeviceControlMode =
   | {

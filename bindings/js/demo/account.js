@@ -38,7 +38,7 @@ const OTHERS = {
   Sixel: ["DCS q", "show a sixel image"],
   XtGetTcap: ["XTGETTCAP", "ask for capabilities"],
   KittyImage: ["APC G", "show or send an image"],
-  LimitPassed: ["", "a string that is too long"],
+  Limit: ["", "a string that is too long"],
 };
 
 const isAsked = (it) => it.type === "Query" || it.color?.type === "Query";

@@ -135,6 +135,6 @@ export class ActionTaker {
     const data = this.#data.all();
     this.#header = null;
     this.#data = undefined;
-    return this.#length <= this.#limit ? deviceOf(header, data) : { type: "LimitPassed" };
+    return this.#length <= this.#limit ? deviceOf(header, data) : { type: "Limit" };
   }
 }

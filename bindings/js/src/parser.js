@@ -33,7 +33,7 @@ function marksOf(word) {
 }
 
 const DCS_END_EVENT = Object.freeze({ type: "DcsEnd" });
-const LIMIT_EVENT = Object.freeze({ type: "LimitPassed" });
+const LIMIT_EVENT = Object.freeze({ type: "Limit" });
 
 /* The events of a call, one after another. */
 class Batch {

@@ -43,7 +43,7 @@ test("actions are as in the tables", () => {
 
 test("longer data is passed over", () => {
   const found = [...actions("\x1bPq~~~~\x1b\\\x1bPq~~~\x1b\\", { dataLimit: 3 })];
-  assert.deepEqual(found.map((it) => it.type), ["LimitPassed", "Esc", "Sixel", "Esc"]);
+  assert.deepEqual(found.map((it) => it.type), ["Limit", "Esc", "Sixel", "Esc"]);
 });
 
 test("what strings say", () => {

@@ -91,8 +91,8 @@ test("many events of a chunk", () => {
 test("the limit of a string", () => {
   const types = (limit) => [...events("\x1b]2;abc\x07x", { limit })].map((it) => it.type);
   assert.deepEqual(types(5), ["Osc", "Text"]);
-  assert.deepEqual(types(4), ["LimitPassed", "Text"]);
-  assert.deepEqual(types(0), ["LimitPassed", "Text"]);
+  assert.deepEqual(types(4), ["Limit", "Text"]);
+  assert.deepEqual(types(0), ["Limit", "Text"]);
   assert.throws(() => new Parser({ limit: -1 }), RangeError);
   assert.throws(() => new Parser({ limit: 1.5 }), RangeError);
   assert.throws(() => new Parser({ limit: 2 ** 40 }), RangeError);

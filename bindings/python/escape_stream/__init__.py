@@ -29,7 +29,7 @@ from escape_stream._events import (
     DcsEnd,
     Escape,
     Event,
-    LimitPassed,
+    Limit,
     Osc,
     Text,
 )
@@ -101,7 +101,7 @@ __all__ = [
     "Group",
     "Image",
     "ImageKind",
-    "LimitPassed",
+    "Limit",
     "Link",
     "Links",
     "Medium",

@@ -16,7 +16,7 @@ from escape_stream._events import (
     Dcs,
     DcsEnd,
     Escape,
-    LimitPassed,
+    Limit,
     Osc,
     Text,
 )
@@ -50,7 +50,7 @@ Action: TypeAlias = (
     | Dcs
     | Data
     | DcsEnd
-    | LimitPassed
+    | Limit
 )
 
 
@@ -67,7 +67,7 @@ def actions(
     ['Text', 'Command', 'Sixel', 'Escape']
 
     A device control string of another kind comes as its events. An application program command that
-    is no image gives nothing, and one with more data than the limit gives `LimitPassed`.
+    is no image gives nothing, and one with more data than the limit gives `Limit`.
     """
     header, data = None, bytearray()
     for event in events(stream, limit):
@@ -84,7 +84,7 @@ def actions(
             # One byte over the limit is enough to know of it.
             data += event.data[: data_limit + 1 - len(data)]
         elif isinstance(event, DcsEnd):
-            yield _device(header, bytes(data)) if len(data) <= data_limit else LimitPassed()
+            yield _device(header, bytes(data)) if len(data) <= data_limit else Limit()
             header = None
         else:
             header = None

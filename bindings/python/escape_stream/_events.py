@@ -113,7 +113,7 @@ class Apc:
 
 
 @dataclass(frozen=True, slots=True)
-class LimitPassed:
+class Limit:
     """A string ended that was longer than the limit: its event, and the data of a device
     control string, are left out."""
 
@@ -125,4 +125,4 @@ def _number(digits: bytes) -> int | None:
     return min(int(short or b"0"), _MOST) if len(short) <= len(str(_MOST)) else _MOST
 
 
-Event: TypeAlias = Text | Control | Escape | Csi | Osc | Dcs | Data | DcsEnd | Apc | LimitPassed
+Event: TypeAlias = Text | Control | Escape | Csi | Osc | Dcs | Data | DcsEnd | Apc | Limit

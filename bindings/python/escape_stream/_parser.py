@@ -18,7 +18,7 @@ from escape_stream._events import (
     DcsEnd,
     Escape,
     Event,
-    LimitPassed,
+    Limit,
     Osc,
     Text,
 )
@@ -116,7 +116,7 @@ class Parser:
                 found.append(DcsEnd())
                 i += 1
             elif kind == _library.LIMIT:
-                found.append(LimitPassed())
+                found.append(Limit())
                 i += 1
             elif kind == _library.FAILED:
                 raise RuntimeError("the parser failed: something else wrote its memory")

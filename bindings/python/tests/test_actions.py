@@ -21,7 +21,7 @@ from escape_stream import (
     sixel,
     termcap_query,
 )
-from escape_stream._events import LimitPassed
+from escape_stream._events import Limit
 
 IMAGES = [
     (b"", None),
@@ -126,5 +126,5 @@ def test_actions_are_as_in_the_tables() -> None:
 
 def test_longer_data_is_passed_over() -> None:
     found = list(actions(b"\x1bPq~~~~\x1b\\\x1bPq~~~\x1b\\", data_limit=3))
-    assert LimitPassed() in found
+    assert Limit() in found
     assert sum(isinstance(it, Sixel) for it in found) == 1

@@ -13,7 +13,7 @@ from escape_stream import (
     DcsEnd,
     Escape,
     Event,
-    LimitPassed,
+    Limit,
     Osc,
     Parser,
     Text,
@@ -90,10 +90,10 @@ def test_ground() -> None:
 
 def test_limits() -> None:
     stream = b"\x1b]0;ab\x07\x1b]0;abc\x07c\x1bP12345qdata\x1b\\"
-    wanted = [Osc(b"0;ab"), LimitPassed(), Text("c"), LimitPassed(), ST]
+    wanted = [Osc(b"0;ab"), Limit(), Text("c"), Limit(), ST]
     for chunks in cuts(stream):
         assert list(joined(events(chunks, limit=4))) == wanted, chunks
-    assert list(events(b"\x1b]\x07\x1b]a\x07", limit=0)) == [Osc(b""), LimitPassed()]
+    assert list(events(b"\x1b]\x07\x1b]a\x07", limit=0)) == [Osc(b""), Limit()]
     for limit in (-1, 1 << 62):
         with pytest.raises(ValueError, match="limit"):
             Parser(limit)

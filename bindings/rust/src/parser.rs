@@ -97,7 +97,7 @@ pub enum Event<'a> {
     Apc(&'a [u8]),
     /// A string, or the header of a device control string, ended that was longer than the
     /// limit: its event is not handed out, nor are the data of the device control string.
-    LimitPassed,
+    Limit,
 }
 
 impl<'a> Event<'a> {
@@ -125,7 +125,7 @@ impl<'a> Event<'a> {
             Event::Character(c) => Some(c.encode_utf8(room)),
             Event::Control(_) | Event::Escape { .. } | Event::Csi { .. } => None,
             Event::Osc(_) | Event::Dcs { .. } | Event::Data(_) | Event::DcsEnd => None,
-            Event::Apc(_) | Event::LimitPassed => None,
+            Event::Apc(_) | Event::Limit => None,
         }
     }
 }
@@ -203,7 +203,7 @@ impl Parser {
 
     /// A parser at the beginning of a stream that hands out strings of up to `limit` bytes: texts
     /// of commands, and parameter bytes of device control strings. It passes over longer ones, and
-    /// hands out [`Event::LimitPassed`] in the place of each. It takes two bytes for each of the
+    /// hands out [`Event::Limit`] in the place of each. It takes two bytes for each of the
     /// limit.
     ///
     /// # Panics
@@ -446,7 +446,7 @@ impl Parser {
             kind::DATA_BYTE => Event::Data(core::slice::from_ref(&self.byte)),
             kind::DCS_END => Event::DcsEnd,
             kind::APC => Event::Apc(self.string()),
-            _ => Event::LimitPassed,
+            _ => Event::Limit,
         }
     }
 

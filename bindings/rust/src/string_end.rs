@@ -40,7 +40,7 @@ impl StringEnd {
     /// any other event, and if a header over the limit ended.
     pub fn of(event: &Event<'_>, taken: &[u8]) -> Option<StringEnd> {
         match event {
-            Event::Osc(_) | Event::Apc(_) | Event::DcsEnd | Event::LimitPassed => {}
+            Event::Osc(_) | Event::Apc(_) | Event::DcsEnd | Event::Limit => {}
             Event::Text(_) | Event::Character(_) | Event::Control(_) | Event::Data(_) => {
                 return None;
             }

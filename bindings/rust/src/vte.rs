@@ -439,7 +439,7 @@ fn call<P: Perform>(params: &mut Params, performer: &mut P, event: Event<'_>, ta
         }
         Event::Data(bytes) => bytes.iter().for_each(|byte| performer.put(*byte)),
         Event::DcsEnd => performer.unhook(),
-        Event::Apc(_) | Event::LimitPassed => {}
+        Event::Apc(_) | Event::Limit => {}
     }
 }
 

@@ -50,13 +50,13 @@ fn past_the_limit() {
     let stream =
         b"\x1b]0;abcdefg\x07a\x1b]0;abcdef\x18\x1b_Gabcdefgh\x1b\\\x1bP1;2;3;4;5qdata\x1b\\";
     let found = [
-        "LimitPassed",
+        "Limit",
         "'a'",
         "Osc([48, 59, 97, 98, 99, 100, 101, 102])",
         "Control(24)",
-        "LimitPassed",
+        "Limit",
         "Escape { intermediates: [], has_more: false, byte: 92 }",
-        "LimitPassed",
+        "Limit",
         "Escape { intermediates: [], has_more: false, byte: 92 }",
     ];
     for size in 1..=stream.len() {

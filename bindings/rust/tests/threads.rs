@@ -78,7 +78,7 @@ fn limits() {
         Some(Error::Memory)
     );
     let mut parser = Parser::try_with_limit(3).unwrap();
-    let wanted = ["Osc([50, 59, 97])", "LimitPassed"];
+    let wanted = ["Osc([50, 59, 97])", "Limit"];
     assert_eq!(events(&mut parser, b"\x1b]2;a\x07\x1b]2;ab\x07"), wanted);
     assert_eq!(
         format!("{parser:?}"),
