@@ -90,9 +90,28 @@ static void note_event(struct log *to, const struct escape_stream_event *event)
                                                       : ~(uint64_t)event->entries[i].number);
 }
 
+#ifdef PYTHON
+static bool is_end(uint32_t kind)
+{
+    return kind == ESCAPE_STREAM_OSC || kind == ESCAPE_STREAM_APC ||
+           kind == ESCAPE_STREAM_DCS_END || kind == ESCAPE_STREAM_LIMIT;
+}
+#endif
+
 static bool has_string(uint32_t kind)
 {
     return kind == ESCAPE_STREAM_OSC || kind == ESCAPE_STREAM_APC || kind == ESCAPE_STREAM_DCS;
+}
+
+/* Notes the byte that ended a string, which the events for Python have. */
+static void note_end(const struct escape_stream_event *event, const uint8_t *bytes, size_t taken)
+{
+#ifdef PYTHON
+    if (is_end(event->kind))
+        note_number(&wanted, escape_stream_string_end(event, bytes, taken));
+#else
+    (void)(event && bytes && taken);
+#endif
 }
 
 /* Notes what escape_stream_next gives of a chunk. */
@@ -114,6 +133,7 @@ static void note_directly(struct escape_stream_parser *parser, const uint8_t *by
             note(&wanted, &byte, 1);
         else
             note_event(&wanted, &event);
+        note_end(&event, bytes, taken);
         if (has_string(event.kind))
             note(&wanted, text, event.length);
         bytes += taken;
@@ -231,6 +251,10 @@ static const uint32_t *note_record(
         note_number(&found, *word++);
     if (kind == ESCAPE_STREAM_ESCAPE || kind == ESCAPE_STREAM_DCS)
         word = note_marks(word);
+#ifdef PYTHON
+    if (is_end(kind))
+        note_number(&found, *word++);
+#endif
     if (has_string(kind)) {
         length = *word++;
         note_string(length, is_lent(it, word));

@@ -1,7 +1,7 @@
 # SPDX-License-Identifier: MIT
 """The events of a stream, in order."""
 
-from dataclasses import dataclass
+from dataclasses import dataclass, field
 from typing import TypeAlias
 
 _MOST = 2**63 - 1
@@ -65,6 +65,10 @@ class Osc:
     they ask for."""
 
     text: bytes
+    end: int | None = field(default=None, compare=False)
+    """The byte that ended it, where a parser gave it: 07 (hexadecimal) is BEL, 18 and 1A are CAN
+    and SUB, which cancel, 1B is the ESC of `ESC \\` or of another sequence, which is the next
+    event, and 80 to 9F a C1 control. Events are equal whatever ended them."""
 
     @property
     def parts(self) -> list[bytes]:
@@ -104,18 +108,26 @@ class Data:
 class DcsEnd:
     """That string ends."""
 
+    end: int | None = field(default=None, compare=False)
+    """The byte that ended it, as of an `Osc`."""
+
 
 @dataclass(frozen=True, slots=True)
 class Apc:
     """An application program command: all bytes between its opener and its end."""
 
     text: bytes
+    end: int | None = field(default=None, compare=False)
+    """The byte that ended it, as of an `Osc`."""
 
 
 @dataclass(frozen=True, slots=True)
 class Limit:
     """A string ended that was longer than the limit: its event, and the data of a device
     control string, are left out."""
+
+    end: int | None = field(default=None, compare=False)
+    """The byte that ended it, as of an `Osc`, or None if a header over the limit ended."""
 
 
 def _number(digits: bytes) -> int | None:

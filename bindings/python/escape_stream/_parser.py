@@ -113,15 +113,15 @@ class Parser:
                 found.append(Data(bytes([record[i + 1]])))
                 i += 2
             elif kind == _library.DCS_END:
-                found.append(DcsEnd())
-                i += 1
+                found.append(DcsEnd(record[i + 1] or None))
+                i += 2
             elif kind == _library.LIMIT:
-                found.append(Limit())
-                i += 1
+                found.append(Limit(record[i + 1] or None))
+                i += 2
             elif kind == _library.FAILED:
                 raise RuntimeError("the parser failed: something else wrote its memory")
             else:
-                size = 4 if kind == _library.DCS else 2
+                size = 4 if kind == _library.DCS else 3
                 length = record[i + size - 1]
                 if is_lent and i + size == words:
                     string = self._lent(length)
@@ -153,9 +153,9 @@ def _marks(marks: int) -> tuple[str, bool]:
 def _of_string(kind: int, string: bytes, words: list[int]) -> Event:
     """Returns the event of a string."""
     if kind == _library.OSC:
-        return Osc(string)
+        return Osc(string, words[0] or None)
     if kind == _library.APC:
-        return Apc(string)
+        return Apc(string, words[0] or None)
     intermediates, has_more = _marks(words[1])
     return Dcs(string, intermediates, chr(words[0]), has_more)
 

@@ -53,6 +53,22 @@ STREAMS: list[tuple[bytes, list[Event]]] = [
 ]
 
 
+ENDS: list[tuple[bytes, list[int | None]]] = [
+    (b"\x1b]2;a\x07\x1b]2;a\x18\x1b]2;a\x1a", [0x07, 0x18, 0x1A]),
+    (b"\x1b]2;a\x1b\\\x1b_a\x1b[m\x1bPa\x1bx", [0x1B, 0x1B, 0x1B]),
+    (b"\x1b]2;a\x9c\x1b_a\xc2\x9c\x1bPa\x9b", [0x9C, 0x9C, 0x9B]),
+    (b"\x1b]2;too long\x07\x1bPq\x18", [0x07, 0x18]),
+]
+
+
+@pytest.mark.parametrize(("stream", "wanted"), ENDS)
+def test_the_ends_of_strings(stream: bytes, wanted: list[int | None]) -> None:
+    for chunks in cuts(stream):
+        found = events(chunks, limit=6)
+        ended = [it for it in found if isinstance(it, (Osc, Apc, DcsEnd, LimitPassed))]
+        assert [it.end for it in ended] == wanted, chunks
+
+
 @pytest.mark.parametrize(("stream", "wanted"), STREAMS)
 def test_streams(stream: bytes, wanted: list[Event]) -> None:
     for chunks in cuts(stream):

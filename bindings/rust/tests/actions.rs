@@ -2,6 +2,7 @@
 //! Checks the actions of streams against the tables, which have those of each.
 mod rows;
 
+use escape_stream::StringEnd;
 use escape_stream::action::{Action, Parser};
 use rows::{Row, count_rows, unescaped};
 
@@ -84,4 +85,32 @@ fn what_is_printed_is_joined() {
     assert_eq!(found[0], Action::PrintString("caf\u{fffd}\u{e9}".into()));
     assert!(matches!(&found[1], Action::CSI(it) if it.function().unwrap().name() == "SGR"));
     assert_eq!(found[2], Action::Print('x'));
+}
+
+#[test]
+fn strings_come_with_their_ends() {
+    let stream = b"\x1b]2;a\x07\x1b]2;b\x18\x1b_Ga=q\x1b\\\x1bP+q61\xc2\x9c\x1bPqx\x1a\x1b[m";
+    let wanted = [
+        Some(StringEnd::Bell),
+        Some(StringEnd::Cancelled),
+        None,
+        Some(StringEnd::Escape),
+        None,
+        Some(StringEnd::C1(0x9c)),
+        Some(StringEnd::Cancelled),
+        None,
+        None,
+    ];
+    for length in 1..=stream.len() {
+        let mut parser = Parser::new();
+        let (mut actions, mut ends) = (Vec::new(), Vec::new());
+        for chunk in stream.chunks(length) {
+            parser.parse_with_ends(chunk, |action, end| {
+                actions.push(action);
+                ends.push(end);
+            });
+        }
+        assert_eq!(ends, wanted, "{actions:?}");
+        assert_eq!(actions, Parser::new().parse_as_vec(stream));
+    }
 }

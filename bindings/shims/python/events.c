@@ -100,8 +100,8 @@ static void put_string(struct many *it, const uint8_t *text, size_t length)
     }
 }
 
-/* Appends an event that is no text. */
-static void put_event(struct many *it, const uint8_t *text)
+/* Appends an event that is no text, and for a string the byte that ended it. */
+static void put_event(struct many *it, const uint8_t *text, uint32_t end)
 {
     const struct escape_stream_event *event = &it->event;
 
@@ -129,7 +129,12 @@ static void put_event(struct many *it, const uint8_t *text)
         break;
     case ESCAPE_STREAM_OSC:
     case ESCAPE_STREAM_APC:
+        put(it, end);
         put_string(it, text, event->length);
+        break;
+    case ESCAPE_STREAM_DCS_END:
+    case ESCAPE_STREAM_LIMIT:
+        put(it, end);
         break;
     }
 }
@@ -165,7 +170,7 @@ void escape_stream_many_next(
         else if (event->kind == ESCAPE_STREAM_CHARACTER)
             put_text(it, &run, utf8, escape_stream_utf8(event->byte, utf8));
         else if (event->kind != ESCAPE_STREAM_NONE)
-            put_event(it, buffer + size / 2);
+            put_event(it, buffer + size / 2, escape_stream_string_end(event, at, taken));
         it->taken += (uint32_t)taken;
         it->is_done = event->kind == ESCAPE_STREAM_NONE || event->kind == ESCAPE_STREAM_FAILED;
     }

@@ -4,7 +4,7 @@ use super::receiver::{Borrowed, Owned, Receiver};
 use super::taker::Taker;
 use super::{Action, ControlCode, Esc};
 use crate::ffi::kind;
-use crate::{Error, Event, borrowed, ffi};
+use crate::{Error, Event, StringEnd, borrowed, ffi};
 use alloc::collections::VecDeque;
 use alloc::vec::Vec;
 use core::fmt;
@@ -99,6 +99,35 @@ impl Parser {
     #[inline]
     pub fn parse_borrowed<F: FnMut(borrowed::Action<'_>)>(&mut self, bytes: &[u8], callback: F) {
         self.give(bytes, Borrowed(callback));
+    }
+
+    /// The same as [`parse`](Parser::parse) with the end of each string, so that an answer can end
+    /// in the same way, and a command that was cancelled can be dropped. It comes with a command,
+    /// an image or a query, and with the last action of another device control string; `None` comes
+    /// with any other action.
+    ///
+    /// ```
+    /// use escape_stream::StringEnd;
+    /// use escape_stream::action::{Action, Parser};
+    ///
+    /// let mut obeyed = Vec::new();
+    /// Parser::new().parse_with_ends(b"\x1b]2;a\x07\x1b]2;b\x18", |action, end| {
+    ///     if let (Action::OperatingSystemCommand(it), Some(StringEnd::Bell)) = (action, end) {
+    ///         obeyed.push(it.to_string());
+    ///     }
+    /// });
+    /// assert_eq!(obeyed, ["\x1b]2;a\x1b\\"]);
+    /// ```
+    pub fn parse_with_ends<F: FnMut(Action, Option<StringEnd>)>(
+        &mut self,
+        bytes: &[u8],
+        mut callback: F,
+    ) {
+        self.take(bytes, |taker, event, taken| {
+            let end = StringEnd::of(&event, taken);
+            let act = |action| callback(action, end);
+            taker.take(event, &mut Owned(act)).map(|()| true)
+        });
     }
 
     /// Whether no sequence, no string and no character is unfinished after the bytes so far, so
