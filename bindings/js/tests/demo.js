@@ -121,7 +121,10 @@ try {
   const [picture] = process.argv.slice(2);
   if (picture) {
     await drop(...(hasScreen ? ["build.cast", BUILD] : ["attack.log", ATTACK]));
-    const { data } = await it.call("Page.captureScreenshot", { format: "png" });
+    const { cssContentSize: { width, height } } = await it.call("Page.getLayoutMetrics");
+    const clip = { x: 0, y: 0, width, height, scale: 1 };
+    const how = { format: "png", captureBeyondViewport: true, clip };
+    const { data } = await it.call("Page.captureScreenshot", how);
     writeFileSync(picture, Buffer.from(data, "base64"));
   }
 } finally {
