@@ -65,7 +65,7 @@ ENDS: list[tuple[bytes, list[int | None]]] = [
 def test_the_ends_of_strings(stream: bytes, wanted: list[int | None]) -> None:
     for chunks in cuts(stream):
         found = events(chunks, limit=6)
-        ended = [it for it in found if isinstance(it, (Osc, Apc, DcsEnd, LimitPassed))]
+        ended = [it for it in found if isinstance(it, (Osc, Apc, DcsEnd, Limit))]
         assert [it.end for it in ended] == wanted, chunks
 
 
