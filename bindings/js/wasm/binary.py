@@ -1,7 +1,12 @@
 # SPDX-License-Identifier: MIT
-"""The binary form of WebAssembly modules, as far as keep-exports and reorder read and write it."""
+"""The binary form of WebAssembly modules, as far as keep-exports and reorder read
+and write it."""
 
 IMPORTS, FUNCTIONS, EXPORTS, START, ELEMENTS, CODE = 2, 3, 7, 8, 9, 10
+# Of an object file: the table of symbols, kinds of these, and two flags. A symbol that is not
+# data has the number of what it names.
+SYMBOLS, FUNCTION, DATA, SECTION, INDEXED = 8, 0, 1, 3, (0, 2, 3, 4, 5)
+UNDEFINED, NAMED = 0x10, 0x40
 
 
 def number(data, at):
@@ -58,3 +63,38 @@ def export_section(entries):
     """Returns the section of these exports."""
     entries = [sized(name) + bytes([kind]) + written(value) for name, kind, value in entries]
     return written(len(entries)) + b"".join(entries)
+
+
+def symbols(section):
+    """Gives the name of each function that an object file defines, and where its flags lie in the
+    section `linking`. Any other section has none."""
+    length, at = number(section, 0)
+    if section[at : at + length] != b"linking":
+        return
+    _, at = number(section, at + length)
+    while at < len(section):
+        kind = section[at]
+        length, at = number(section, at + 1)
+        if kind == SYMBOLS:
+            yield from functions_of(section, at)
+        at += length
+
+
+def functions_of(section, at):
+    """Gives these of a table of symbols at a place."""
+    count, at = number(section, at)
+    for _ in range(count):
+        kind, start = section[at], at + 1
+        flags, end = number(section, start)
+        is_defined = not flags & UNDEFINED
+        name, at = b"", end
+        if kind in INDEXED:
+            _, at = number(section, at)
+        if kind == DATA or kind in INDEXED and kind != SECTION and (is_defined or flags & NAMED):
+            length, at = number(section, at)
+            name, at = section[at : at + length], at + length
+        if kind == DATA and is_defined:
+            for _ in range(3):
+                _, at = number(section, at)
+        if kind == FUNCTION and is_defined:
+            yield name, start, end
