@@ -213,24 +213,24 @@ one_shown : (A : Type 0) (z : Size) (t : Shown) (p : Piece) (number : Look → �
     ≡ record t { grid = grid_by z t.grid (piece_step number p) }
 one_shown A z t soft_reset number h =
     ap (λ f. record t {
-      grid = grid_from z t.grid (function_steps t.known t.grid.cursor f);
+      grid = grid_from z t.grid (function_steps t.known t.grid.cursor f ++ step.Nothing ∷ []);
       known = function_known t.known t.grid.cursor f;
     }) reset_function
 one_shown A z t erase_all number h =
     ap (λ f. record t {
-      grid = grid_from z t.grid (function_steps t.known t.grid.cursor f);
+      grid = grid_from z t.grid (function_steps t.known t.grid.cursor f ++ step.Nothing ∷ []);
       known = function_known t.known t.grid.cursor f;
     }) all_function
 one_shown A z t erase_right number h =
     ap (λ f. record t {
-      grid = grid_from z t.grid (function_steps t.known t.grid.cursor f);
+      grid = grid_from z t.grid (function_steps t.known t.grid.cursor f ++ step.Nothing ∷ []);
       known = function_known t.known t.grid.cursor f;
     }) right_function
 one_shown A z t (place r n) number h =
     let row : place_count (at_place r) ≡ r = omega (arith, h.0) in
     let column : place_count (at_place n) ≡ n = omega (arith, h.1) in
     ap (λ f. record t {
-      grid = grid_from z t.grid (function_steps t.known t.grid.cursor f);
+      grid = grid_from z t.grid (function_steps t.known t.grid.cursor f ++ step.Nothing ∷ []);
       known = function_known t.known t.grid.cursor f;
     }) (place_function r n h.0 h.1)
     ∙ ap (λ k. record t {

@@ -4,7 +4,7 @@ use Rattle.std.proofs.lemmas.Bool.{cases_Bool, true≢false}
 use Rattle.std.proofs.lemmas.Bool.Decides.{nat_tests}
 use Rattle.std.proofs.lemmas.List.{get_or-drop, length-drop, take_all}
 use Rattle.esc_screen.specs.Lists.{in_part, moved_down, moved_up}
-use Rattle.esc_screen.specs.Cells.{blank, cell, cleared_cells, cut_row, deleted_cells, drawn_cell, emptied_cells, erased_cells, inserted_cells, is_rest, is_rest_content, joined_at, joined_cell, marked_cells, marked_cell, marked_content, no_marks, put, put_wide, shifted_cells, start_of}
+use Rattle.esc_screen.specs.Cells.{blank, cell, cleared_cells, cut_row, deleted_cells, drawn_cell, emptied_cells, erased_cells, filled_cells, filled_part, inserted_cells, is_rest, is_rest_content, joined_at, joined_cell, marked_cells, marked_cell, marked_content, no_marks, put, put_wide, shifted_cells, start_of}
 use Rattle.esc_screen.specs.Halves.{GoOn, IsWhole, is_wide, is_wide_content}
 use Rattle.esc_screen.specs.declared.cell.Cell.{Cell}
 use Rattle.esc_screen.specs.declared.content.Content.{Content}
@@ -230,6 +230,12 @@ pub whole_erased : (l m n : ℕ) (xs : List Cell) → IsWhole xs → IsWhole (er
 whole_erased l m n xs h =
     whole_part m n (cleared_cells l) (cut_row n (cut_row m xs)) (whole_cut n _ (whole_cut m xs h))
     (edge_kept_cut m n _ (edge_cut m xs)) (edge_cut n (cut_row m xs)) (whole_cleared l _)
+
+pub whole_filled_part : (x : Cell) (m n : ℕ) (xs : List Cell) → is_rest x ≡ false
+    → is_wide x ≡ false → IsWhole xs → IsWhole (filled_part x m n xs)
+whole_filled_part x m n xs r v h =
+    whole_part m n (filled_cells x) (cut_row n (cut_row m xs)) (whole_cut n _ (whole_cut m xs h))
+    (edge_kept_cut m n _ (edge_cut m xs)) (edge_cut n (cut_row m xs)) (whole_filled x _ r v)
 
 -- the part up to the end
 to_end : (m n : ℕ) (xs : List Cell) → length xs ≤ n → take (n - m) (drop m xs) ≡ drop m xs

@@ -2,10 +2,10 @@
 use Rattle.std.proofs.Common.{ℕ, suc, zero, ◌≡◌, ◌+◌, ◌-◌, ◌<◌, ◌≤◌, max, Bool, true, false, List, [], ◌∷◌, ◌++◌, length, map, set, take, drop, get_or, if◌then◌else◌, refl, ap, sym, ◌∙◌, length-append, arith}
 use Rattle.std.proofs.lemmas.List.{length-map, length-replicate, length-set, take-append-drop}
 use Rattle.esc_screen.specs.Lists.{in_part, moved_down, moved_up}
-use Rattle.esc_screen.specs.Cells.{blank, cleared_cells, cut_row, deleted_cells, emptied_cells, erased_cells, filled_cells, inserted_cells, is_rest, marked_cells, put, put_wide, shifted_cells, start_of}
+use Rattle.esc_screen.specs.Cells.{blank, cleared_cells, cut_row, deleted_cells, emptied_cells, erased_cells, filled_cells, filled_part, inserted_cells, is_rest, marked_cells, put, put_wide, shifted_cells, start_of}
 use Rattle.esc_screen.specs.Changes.{columns_moved}
 use Rattle.esc_screen.specs.Cursors.{at}
-use Rattle.esc_screen.specs.Grids.{Grid, Size, in_row, grid_at, rows_down, rows_erased, rows_up, with_cursor, with_margins, with_rows}
+use Rattle.esc_screen.specs.Grids.{Grid, Size, in_row, in_rows, grid_at, rows_down, rows_erased, rows_up, with_cursor, with_margins, with_rows}
 use Rattle.esc_screen.specs.Sound.{AreWide, IsFull, IsOn, IsSound}
 use Rattle.esc_screen.specs.declared.cell.Cell.{Cell}
 use Rattle.esc_screen.specs.declared.cursor.Cursor.{Cursor}
@@ -74,6 +74,12 @@ length_cleared l xs = length_filled (blank l) xs
 pub length_erased : (l m n : ℕ) (xs : List Cell) → length (erased_cells l m n xs) ≡ length xs
 length_erased l m n xs = length_part m n (cleared_cells l) (cut_row n (cut_row m xs))
     (length_cleared l)
+    ∙ length_cut n (cut_row m xs) ∙ length_cut m xs
+
+pub length_filled_part : (x : Cell) (m n : ℕ) (xs : List Cell)
+    → length (filled_part x m n xs) ≡ length xs
+length_filled_part x m n xs = length_part m n (filled_cells x) (cut_row n (cut_row m xs))
+    (length_filled x)
     ∙ length_cut n (cut_row m xs) ∙ length_cut m xs
 
 pub length_deleted : (l k m n : ℕ) (xs : List Cell) → length (deleted_cells l k m n xs) ≡ length xs
@@ -249,6 +255,13 @@ sound_columns s g more n c h =
     (keeps_part s.columns g.top g.bottom _
     (keeps_each s.columns (shifted_cells more e n c s.columns)
     (length_shifted more e n c s.columns))) h
+
+pub sound_filled_part : (s : Size) (g : Grid) (x : Cell) (m n a b : ℕ) → IsSound s g
+    → IsSound s (in_rows m n (map (filled_part x a b)) g)
+sound_filled_part s g x m n a b h =
+    sound_rows s g (in_part m n (map (filled_part x a b)))
+    (keeps_part s.columns m n _
+    (keeps_each s.columns (filled_part x a b) (length_filled_part x a b))) h
 
 pub sound_if : (s : Size) (b : Bool) (g h : Grid) → IsSound s g → IsSound s h
     → IsSound s (if b then g else h)

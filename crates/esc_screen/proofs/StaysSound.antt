@@ -2,16 +2,19 @@
 use Rattle.std.proofs.Common.{ℕ, suc, zero, ◌≡◌, ◌+◌, ◌-◌, ◌==◌, ◌<◌, ◌≤◌, min, nat_lt, Bool, true, false, ◌||◌, List, [], ◌∷◌, length, map, drop, replicate, get_or, if◌then◌else◌, refl, ◌∙◌, arith}
 use Rattle.std.proofs.lemmas.Bool.Decides.{nat_tests}
 use Rattle.std.proofs.lemmas.List.{length-replicate, length-set}
+use Rattle.esc_screen.specs.Areas.{area_filled, end_column, end_row, has_cells}
 use Rattle.esc_screen.specs.Lists.{times}
 use Rattle.esc_screen.specs.Cells.{blank, blank_row, deleted_cells, drawn_cell, erased_cells, filled_cells, inserted_cells, joined_at, marked_cells, put, put_wide}
 use Rattle.esc_screen.specs.Cursors.{before_stop, landed_cursor, shown, stop_after, stop_before}
-use Rattle.esc_screen.specs.Grids.{Grid, Size, blank_rows, first_grid, in_row, line_fed, line_fed_back, grid_at, next_line, settled_grid, with_cursor, with_margins, with_rows}
+use Rattle.esc_screen.specs.Grids.{Grid, Size, blank_rows, first_grid, in_row, line_fed, line_fed_back, grid_at, next_line, rows_erased, settled_grid, with_cursor, with_margins, with_rows}
 use Rattle.esc_screen.specs.Printing.{before, column_before, has_before, has_room, joined, mark_printed, narrow_printed, grid_with_room, grid_past, grid_with_character, printed_wide, repeated_content, wide_printed, wrapped_grid, wrapped_wide}
-use Rattle.esc_screen.specs.Motions.{grid_by_motion, positioned_grid, row_by, row_down, row_up, tab_before}
+use Rattle.esc_screen.specs.Motions.{column_by, grid_by_motion, positioned_grid, row_by, row_down, row_up, tab_before}
 use Rattle.esc_screen.specs.Changes.{alignment_grid, cells_erased, columns_within, grid_by_change, is_within}
-use Rattle.esc_screen.specs.Settings.{alternate_cleared, exchanged_screens, grid_by_setting, saving, scrolling, to_alternate, to_main}
+use Rattle.esc_screen.specs.Settings.{alternate_cleared, emptied_grid, exchanged_screens, grid_by_setting, saving, scrolling, to_alternate, to_main}
 use Rattle.esc_screen.specs.Steps.{grid_by}
 use Rattle.esc_screen.specs.Sound.{AreWide, BeginsSound, IsFull, IsOn, IsSound, StaysSound}
+use Rattle.esc_screen.specs.declared.area.Area.{Area}
+use Rattle.esc_screen.specs.declared.cell.Cell.{Cell}
 use Rattle.esc_screen.specs.declared.change.Change.{Change}
 use Rattle.esc_screen.specs.declared.change.Change.TheVariants as change
 use Rattle.esc_screen.specs.declared.content.Content.{Content}
@@ -23,7 +26,7 @@ use Rattle.esc_screen.specs.declared.setting.Setting.{Setting}
 use Rattle.esc_screen.specs.declared.setting.Setting.TheVariants as setting
 use Rattle.esc_screen.specs.declared.step.Step.{Step}
 use Rattle.esc_screen.specs.declared.step.Step.TheVariants as step
-use Rattle.esc_screen.proofs.Sounds.{keeps_filled, length_deleted, length_erased, length_inserted, length_marked, length_put, length_put_wide, less_if, sound_columns, sound_down, sound_erased, sound_if, sound_in_row, sound_moved, sound_rows, sound_up, with_on, with_scrolling}
+use Rattle.esc_screen.proofs.Sounds.{keeps_filled, length_deleted, length_erased, length_inserted, length_marked, length_put, length_put_wide, less_if, sound_columns, sound_down, sound_erased, sound_filled_part, sound_if, sound_in_row, sound_moved, sound_rows, sound_up, with_on, with_scrolling}
 use Rattle.esc_screen.proofs.Stops.{length_eighths}
 
 -- ---- lines
@@ -232,6 +235,13 @@ sound_columns_within : (s : Size) (g : Grid) (more : Bool) (n c : ℕ) → IsSou
 sound_columns_within s g more n c h =
     sound_if s (is_within g) _ _ (sound_columns s g more n c h) h
 
+sound_area : (s : Size) (r : Area) (x : Cell) (g : Grid) → IsSound s g
+    → IsSound s (area_filled s r x g)
+sound_area s r x g h =
+    sound_if s (has_cells s r g) _ _
+    (sound_filled_part s g x (row_by s r.top g) (end_row s r g) (column_by s r.left)
+    (end_column s r) h) h
+
 sound_change : (s : Size) (g : Grid) (x : Change) → IsSound s g
     → IsSound s (grid_by_change s g x)
 sound_change s g change.Index h = sound_fed s g h
@@ -278,6 +288,9 @@ sound_change s g change.BackIndex h =
 sound_change s g change.ForwardIndex h =
     sound_if s (g.cursor.column + 1 == s.columns) _ _ (sound_columns_within s g false 1 0 h)
     (sound_motion s g (motion.Right 1) h)
+sound_change s g (change.EraseArea r) h = sound_area s r (blank g.cursor.erased) g h
+sound_change s g (change.FillArea c r) h =
+    sound_area s r (drawn_cell g.cursor.look (shown g.cursor c)) g h
 sound_change s g change.Align h = sound_aligned s g h
 
 -- ---- settings
@@ -310,6 +323,16 @@ sound_scrolling s m n g h =
     by_test false e = h
     by_test true e = sound_at s 0 0 (with_margins m (min n s.rows) g)
         (with_scrolling s g m (min n s.rows) h (omega (arith, e refl)) (omega arith))
+
+sound_emptied : (s : Size) (g : Grid) → IsSound s g → IsSound s (emptied_grid s g)
+sound_emptied s g h =
+    let rs = rows_erased 0 s.rows g in
+    let k = sound_erased s g 0 s.rows h in
+    let some : 0 < s.rows = omega (arith, h.cursor.row) in
+    let one : 0 < s.columns = omega (arith, h.cursor.column) in
+    let all : s.rows ≤ s.rows = omega arith in
+    sound_moved s (with_margins 0 s.rows rs) 0 0 (with_scrolling s rs 0 s.rows k some all)
+    some one
 
 sound_saving : (s : Size) (g : Grid) → IsSound s g → IsSound s (saving g)
 sound_saving s g h = record {
@@ -362,6 +385,7 @@ sound_setting s g (setting.Mode m b) h = record {
 sound_setting s g (setting.Origin b) h =
     sound_at s 0 0 (with_cursor (record (g.cursor) { origin = b }) g)
     (with_on s g _ h (on_same s g.cursor _ h.cursor refl refl))
+sound_setting s g setting.Columns h = sound_if s g.modes.columns _ _ (sound_emptied s g h) h
 sound_setting s g (setting.G0Draws b) h =
     with_on s g _ h (on_same s g.cursor _ h.cursor refl refl)
 sound_setting s g (setting.G1Draws b) h =

@@ -3,16 +3,18 @@ use Rattle.std.proofs.Common.{ℕ, suc, zero, ◌≡◌, ◌+◌, ◌-◌, ◌==
 use Rattle.std.proofs.lemmas.Bool.{and_parts}
 use Rattle.std.proofs.lemmas.Bool.Decides.{nat_tests}
 use Rattle.esc_screen.specs.Lists.{in_part, moved_down, moved_up, times}
-use Rattle.esc_screen.specs.Cells.{blank, blank_row, cleared_cells, deleted_cells, drawn_cell, erased_cells, filled_cells, inserted_cells, is_rest, joined_at, marked_cells, put, put_wide, shifted_cells}
+use Rattle.esc_screen.specs.Areas.{area_filled, end_column, end_row, has_cells}
+use Rattle.esc_screen.specs.Cells.{blank, blank_row, cleared_cells, deleted_cells, drawn_cell, erased_cells, filled_cells, filled_part, inserted_cells, is_rest, joined_at, marked_cells, put, put_wide, shifted_cells}
 use Rattle.esc_screen.specs.Changes.{alignment_grid, cells_erased, columns_moved, columns_within, fed, grid_by_change, is_within}
 use Rattle.esc_screen.specs.Cursors.{shown}
 use Rattle.esc_screen.specs.Grids.{Grid, Size, in_row, line_fed, line_fed_back, grid_at, next_line, rows_down, rows_erased, rows_up, settled_grid, with_rows}
 use Rattle.esc_screen.specs.Halves.{AreWhole, BeginsWhole, HasWholeRows, IsWhole, StaysWhole, is_wide}
-use Rattle.esc_screen.specs.Motions.{grid_by_motion}
+use Rattle.esc_screen.specs.Motions.{column_by, grid_by_motion, row_by}
 use Rattle.esc_screen.specs.Printing.{before, column_before, has_before, has_room, joined, mark_printed, narrow_printed, grid_with_room, grid_with_character, printed_wide, repeated_content, wide_printed, wrapped_grid, wrapped_wide}
-use Rattle.esc_screen.specs.Settings.{alternate_cleared, exchanged_screens, grid_by_setting, saving, scrolling, to_alternate, to_main}
+use Rattle.esc_screen.specs.Settings.{alternate_cleared, emptied_grid, exchanged_screens, grid_by_setting, saving, scrolling, to_alternate, to_main}
 use Rattle.esc_screen.specs.Sound.{AreWide, IsSound}
 use Rattle.esc_screen.specs.Steps.{grid_by}
+use Rattle.esc_screen.specs.declared.area.Area.{Area}
 use Rattle.esc_screen.specs.declared.cell.Cell.{Cell}
 use Rattle.esc_screen.specs.declared.change.Change.{Change}
 use Rattle.esc_screen.specs.declared.change.Change.TheVariants as change
@@ -24,7 +26,7 @@ use Rattle.esc_screen.specs.declared.setting.Setting.{Setting}
 use Rattle.esc_screen.specs.declared.setting.Setting.TheVariants as setting
 use Rattle.esc_screen.specs.declared.step.Step.{Step}
 use Rattle.esc_screen.specs.declared.step.Step.TheVariants as step
-use Rattle.esc_screen.proofs.Halves.{whole_deleted, whole_erased, whole_filled, whole_inserted, whole_joined, whole_marked, whole_put, whole_put_wide, whole_shifted}
+use Rattle.esc_screen.proofs.Halves.{whole_deleted, whole_erased, whole_filled, whole_filled_part, whole_inserted, whole_joined, whole_marked, whole_put, whole_put_wide, whole_shifted}
 use Rattle.esc_screen.proofs.Sounds.{wide_drop, wide_take}
 use Rattle.esc_screen.proofs.StaysSound.{sound_by, sound_here, sound_narrow, sound_opened, sound_wide, sound_wrapped, sound_wrapped_wide}
 
@@ -333,6 +335,21 @@ whole_columns_within : (s : Size) (g : Grid) (more : Bool) (n c : ℕ) → IsSou
 whole_columns_within s g more n c o within h =
     whole_if (is_within g) _ _ (whole_columns s g more n c o within h) h
 
+rows_filled_part : (x : Cell) (a b : ℕ) (xs : List (List Cell)) → is_rest x ≡ false
+    → is_wide x ≡ false → AreWhole xs → AreWhole (map (filled_part x a b) xs)
+rows_filled_part x a b [] r v h = omega arith
+rows_filled_part x a b (y ∷ ys) r v h =
+    (whole_filled_part x a b y r v h.0, rows_filled_part x a b ys r v h.1)
+
+whole_area : (s : Size) (r : Area) (x : Cell) (g : Grid) → is_rest x ≡ false
+    → is_wide x ≡ false → HasWholeRows g → HasWholeRows (area_filled s r x g)
+whole_area s r x g e f h =
+    let a = column_by s r.left in
+    let b = end_column s r in
+    whole_if (has_cells s r g) _ _
+    (with_whole g _ h (rows_part (row_by s r.top g) (end_row s r g) (map (filled_part x a b)) g.rows
+    h.rows (λ ys w. rows_filled_part x a b ys e f w))) h
+
 whole_aligned : (s : Size) (g : Grid) → HasWholeRows g → HasWholeRows (alignment_grid s g)
 whole_aligned s g h = record {
   rows = rows_filled (drawn_cell 0 0x45) g.rows refl refl;
@@ -401,6 +418,9 @@ whole_change s g change.ForwardIndex o h =
     whole_if (g.cursor.column + 1 == s.columns) _ _
     (whole_columns_within s g false 1 0 o (none_within s.columns) h)
     (whole_motion s g (motion.Right 1) h)
+whole_change s g (change.EraseArea r) o h = whole_area s r (blank g.cursor.erased) g refl refl h
+whole_change s g (change.FillArea c r) o h =
+    whole_area s r (drawn_cell g.cursor.look (shown g.cursor c)) g refl refl h
 whole_change s g change.Align o h = whole_aligned s g h
 
 -- ---- settings
@@ -431,6 +451,10 @@ whole_setting s g setting.ClearTabs h = same_rows g _ h refl refl
 whole_setting s g (setting.Margins m n) h = whole_scrolling s m n g h
 whole_setting s g (setting.Mode m b) h = same_rows g _ h refl refl
 whole_setting s g (setting.Origin b) h = same_rows g _ h refl refl
+whole_setting s g setting.Columns h =
+    let k = whole_rows_erased 0 s.rows g h in
+    whole_if g.modes.columns _ _
+    (same_rows (rows_erased 0 s.rows g) (emptied_grid s g) k refl refl) h
 whole_setting s g (setting.G0Draws b) h = same_rows g _ h refl refl
 whole_setting s g (setting.G1Draws b) h = same_rows g _ h refl refl
 whole_setting s g (setting.Shift b) h = same_rows g _ h refl refl

@@ -135,6 +135,10 @@ content_at n xs = (get_or xs (start_of n xs) (blank 0)).content
 abbrev pub erased_cells : ℕ → ℕ → ℕ → List Cell → List Cell
 erased_cells l m n xs = in_part m n (cleared_cells l) (cut_row n (cut_row m xs))
 
+-- with this cell from one column to before another
+abbrev pub filled_part : Cell → ℕ → ℕ → List Cell → List Cell
+filled_part x m n xs = in_part m n (filled_cells x) (cut_row n (cut_row m xs))
+
 -- so many cells from one column on, and before another, are gone, and blank ones come at the end
 abbrev pub deleted_cells : ℕ → ℕ → ℕ → ℕ → List Cell → List Cell
 deleted_cells l k m n xs = in_part m n (moved_up k (cleared_cells l))

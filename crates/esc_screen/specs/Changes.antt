@@ -1,5 +1,6 @@
 -- The changes of cells, other than printing.
 use Rattle.std.specs.Prelude.{ℕ, ◌+◌, ◌==◌, nat_lt, Bool, true, false, ◌||◌, if◌then◌else◌, map}
+use Rattle.esc_screen.specs.Areas.{area_drawn, area_erased}
 use Rattle.esc_screen.specs.Cells.{deleted_cells, drawn_cell, erased_cells, filled_cells, inserted_cells, shifted_cells}
 use Rattle.esc_screen.specs.Grids.{Grid, Size, in_row, in_rows, line_fed, line_fed_back, grid_at, next_line, rows_down, rows_erased, rows_up, settled_grid, with_margins, with_rows}
 use Rattle.esc_screen.specs.Motions.{grid_by_motion}
@@ -92,4 +93,6 @@ grid_by_change s g (change.InsertColumns n) = columns_within s true n g.cursor.c
 grid_by_change s g (change.DeleteColumns n) = columns_within s false n g.cursor.column g
 grid_by_change s g change.BackIndex = indexed_back s g
 grid_by_change s g change.ForwardIndex = indexed_on s g
+grid_by_change s g (change.EraseArea r) = area_erased s r g
+grid_by_change s g (change.FillArea c r) = area_drawn s c r g
 grid_by_change s g change.Align = alignment_grid s g

@@ -74,6 +74,7 @@ first_modes = record {
   reversed = false;
   shows_cursor = true;
   synchronized = false;
+  columns = false;
 }
 
 abbrev pub softly_reset_modes : Modes → Modes
@@ -90,6 +91,7 @@ with_mode mode.NewLine b m = record m { new_line = b }
 with_mode mode.ReverseVideo b m = record m { reversed = b }
 with_mode mode.ShowCursor b m = record m { shows_cursor = b }
 with_mode mode.Synchronized b m = record m { synchronized = b }
+with_mode mode.Columns b m = record m { columns = b }
 
 -- ---- tab stops: for each column whether it is one
 

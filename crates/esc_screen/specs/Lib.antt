@@ -5,6 +5,7 @@ pub mod Cursors
 pub mod Grids
 pub mod Printing
 pub mod Motions
+pub mod Areas
 pub mod Changes
 pub mod Settings
 pub mod Steps

@@ -2,7 +2,7 @@
 use Rattle.std.specs.Prelude.{ℕ, ◌+◌, nat_lt, min, Bool, true, false, if◌then◌else◌, length, map, replicate, set}
 use Rattle.esc_screen.specs.Cells.{cleared_cells}
 use Rattle.esc_screen.specs.Cursors.{eighths, first_modes, home, softly_reset, softly_reset_modes, with_mode}
-use Rattle.esc_screen.specs.Grids.{Grid, Size, rows_erased, with_cursor, with_margins}
+use Rattle.esc_screen.specs.Grids.{Grid, Size, grid_at, rows_erased, with_cursor, with_margins}
 use Rattle.esc_screen.specs.Motions.{positioned_grid}
 use Rattle.esc_screen.specs.declared.setting.Setting.{Setting}
 use Rattle.esc_screen.specs.declared.setting.Setting.TheVariants as setting
@@ -19,6 +19,13 @@ scrolling s m n g = if nat_lt (m + 1) (min n s.rows)
 
 abbrev pub with_origin : Size → Bool → Grid → Grid
 with_origin s b g = positioned_grid s 0 0 (with_cursor (record (g.cursor) { origin = b }) g)
+
+-- 80 or 132 columns: all is blank, with no margins, and the size stays
+abbrev pub emptied_grid : Size → Grid → Grid
+emptied_grid s g = grid_at 0 0 (with_margins 0 s.rows (rows_erased 0 s.rows g))
+
+abbrev pub with_columns : Size → Grid → Grid
+with_columns s g = if g.modes.columns then emptied_grid s g else g
 
 abbrev pub saving : Grid → Grid
 saving g = record g { saved = g.cursor }
@@ -80,6 +87,7 @@ grid_by_setting s g setting.ClearTabs = record g { tabs = replicate (length g.ta
 grid_by_setting s g (setting.Margins m n) = scrolling s m n g
 grid_by_setting s g (setting.Mode m b) = record g { modes = with_mode m b g.modes }
 grid_by_setting s g (setting.Origin b) = with_origin s b g
+grid_by_setting s g setting.Columns = with_columns s g
 grid_by_setting s g (setting.G0Draws b) = with_cursor (record (g.cursor) { g0_draws = b }) g
 grid_by_setting s g (setting.G1Draws b) = with_cursor (record (g.cursor) { g1_draws = b }) g
 grid_by_setting s g (setting.Shift b) = with_cursor (record (g.cursor) { shifted = b }) g

@@ -1,6 +1,6 @@
 //! The cells of a row.
 ghost use Rattle.std.specs.Prelude.{◌≡◌, ◌+◌, ◌<◌, ◌≤◌, ◌^◌, drop, length, map, true};
-ghost use Rattle.esc_screen.specs.Cells.{cleared_cells, content_at, cut_row, deleted_cells, drawn_cell, emptied_cells, erased_cells, filled_cells, inserted_cells, is_free, joined_at, mark_at, marked_cells, put, put_all, put_wide, start_of};
+ghost use Rattle.esc_screen.specs.Cells.{cleared_cells, content_at, cut_row, deleted_cells, drawn_cell, emptied_cells, erased_cells, filled_cells, filled_part, inserted_cells, is_free, joined_at, mark_at, marked_cells, put, put_all, put_wide, start_of};
 ghost use Rattle.esc_screen.specs.Lists.{in_part, moved_down, moved_up};
 
 use crate::cell::Cell;
@@ -195,6 +195,25 @@ pub(crate) fn erase(cells: &mut [Cell], from: usize, to: usize, look: u16)
     cut_at(cells, from);
     cut_at(cells, to);
     clear_part(cells, from, to, look);
+}
+
+// Makes the cells from one column to before another this one, whatever stands at their edges.
+fn fill_within(cells: &mut [Cell], from: usize, to: usize, cell: Cell)
+    ensures { cells.new ≡ in_part from to (filled_cells cell) cells.old }
+{
+    let end = to.min(cells.len());
+    if from < end {
+        fill(&mut cells[from..end], cell);
+    }
+}
+
+/// Makes the cells from one column to before another this one.
+pub(crate) fn fill_part(cells: &mut [Cell], from: usize, to: usize, cell: Cell)
+    ensures { cells.new ≡ filled_part cell from to cells.old }
+{
+    cut_at(cells, from);
+    cut_at(cells, to);
+    fill_within(cells, from, to, cell);
 }
 
 // Moves cells so many columns back: the last ones are blank then.

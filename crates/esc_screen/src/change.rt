@@ -1,5 +1,7 @@
 //! Changes of cells.
 
+use crate::area::Area;
+
 /// A change of the cells of a screen, other than by printing. No wrap is pending after one that
 /// erases, inserts or deletes cells, nor after a line feed.
 #[derive(Clone, Copy)]
@@ -55,6 +57,12 @@ pub enum Change {
     BackIndex,
     /// A column on; in the last one, the first column goes, within the margins: DECFI.
     ForwardIndex,
+    /// The cells of a rectangle become blank: DECERA. The cursor stays, and so does a wrap that is
+    /// pending.
+    EraseArea(Area),
+    /// The cells of a rectangle become this character of one column, which looks as characters do
+    /// that come: DECFRA. The cursor stays, and so does a wrap that is pending.
+    FillArea(char, Area),
     /// An `E` in every cell, no margins, and the cursor at home: DECALN.
     Align,
 }

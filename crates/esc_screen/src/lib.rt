@@ -14,6 +14,7 @@
 //! ```
 #![tactic(auto)]
 
+pub mod area;
 pub mod cell;
 mod cells;
 pub mod change;
@@ -33,6 +34,7 @@ mod shift;
 pub mod step;
 mod tabs;
 
+pub use area::Area;
 pub use cell::{Cell, is_joined};
 pub use change::Change;
 pub use content::Content;

@@ -15,4 +15,6 @@ pub enum Mode {
     ShowCursor,
     /// The display waits until the mode is reset: private mode 2026.
     Synchronized,
+    /// [`Setting::Columns`](crate::Setting::Columns) has an effect: private mode 40.
+    Columns,
 }

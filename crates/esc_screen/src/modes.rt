@@ -19,6 +19,8 @@ pub struct Modes {
     pub shows_cursor: bool,
     /// [`Mode::Synchronized`].
     pub synchronized: bool,
+    /// [`Mode::Columns`].
+    pub columns: bool,
 }
 
 impl Modes {
@@ -33,6 +35,7 @@ impl Modes {
             reversed: false,
             shows_cursor: true,
             synchronized: false,
+            columns: false,
         }
     }
 
@@ -60,6 +63,10 @@ impl Modes {
             },
             Mode::Synchronized => Modes {
                 synchronized: on,
+                ..self
+            },
+            Mode::Columns => Modes {
+                columns: on,
                 ..self
             },
         }

@@ -1,6 +1,6 @@
 //! A row of cells.
 ghost use Rattle.std.specs.Prelude.{◌≡◌, ◌+◌, ◌<◌, ◌^◌, IfOk, OnErr, length};
-ghost use Rattle.esc_screen.specs.Cells.{blank_row, cleared_cells, content_at, deleted_cells, erased_cells, filled_cells, inserted_cells, joined_at, marked_cells, put, put_all, put_wide, shifted_cells};
+ghost use Rattle.esc_screen.specs.Cells.{blank_row, cleared_cells, content_at, deleted_cells, erased_cells, filled_cells, filled_part, inserted_cells, joined_at, marked_cells, put, put_all, put_wide, shifted_cells};
 ghost use Rattle.esc_screen.specs.Used.{IsUnusedFrom};
 ghost use Rattle.fallible_alloc.specs.Refusals.{Refused};
 
@@ -168,6 +168,14 @@ impl<A: Allocator> Row<A> {
         } else {
             self.delete(count, column, end, look);
         }
+    }
+
+    /// Makes the cells from one column to before another this one.
+    pub fn fill_part(&mut self, from: usize, to: usize, cell: Cell)
+        ensures { self.new ≡ filled_part cell from to self.old }
+    {
+        cells::fill_part(&mut self.cells, from, to, cell);
+        self.used = self.cells.len();
     }
 
     /// Makes all cells this one.

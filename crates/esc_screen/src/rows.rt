@@ -1,6 +1,6 @@
 //! The rows of a screen.
 ghost use Rattle.std.specs.Prelude.{◌≡◌, ◌+◌, ◌<◌, ◌^◌, map};
-ghost use Rattle.esc_screen.specs.Cells.{cleared_cells, filled_cells, shifted_cells};
+ghost use Rattle.esc_screen.specs.Cells.{cleared_cells, filled_cells, filled_part, shifted_cells};
 ghost use Rattle.esc_screen.specs.Lists.{in_part, moved_down, moved_up};
 
 use crate::cell::Cell;
@@ -114,5 +114,32 @@ pub(crate) fn shift_part<A: Allocator>(rows: &mut [Row<A>], from: usize, to: usi
     let end = to.min(rows.len());
     if from < end {
         shift(&mut rows[from..end], columns);
+    }
+}
+
+// Makes the cells from one column to before another this one, in each row.
+fn fill_columns<A: Allocator>(rows: &mut [Row<A>], left: usize, right: usize, cell: Cell)
+    ensures { rows.new ≡ map (filled_part cell left right) rows.old }
+{
+    for i in 0..rows.len() {
+        rows[i].fill_part(left, right, cell);
+    }
+}
+
+/// Makes the cells from one column to before another this one, in the rows from one to before
+/// another.
+pub(crate) fn fill_area<A: Allocator>(
+    rows: &mut [Row<A>],
+    from: usize,
+    to: usize,
+    left: usize,
+    right: usize,
+    cell: Cell,
+)
+    ensures { rows.new ≡ in_part from to (map (filled_part cell left right)) rows.old }
+{
+    let end = to.min(rows.len());
+    if from < end {
+        fill_columns(&mut rows[from..end], left, right, cell);
     }
 }

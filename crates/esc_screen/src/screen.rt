@@ -15,6 +15,7 @@ use crate::step::Step;
 use crate::{rows, tabs};
 use std::alloc::{AllocError, Allocator, Global};
 
+mod areas;
 mod changing;
 mod leaving;
 mod moving;

@@ -21,6 +21,9 @@ pub enum Setting {
     Mode(Mode, bool),
     /// Rows are counted from the top margin, or not, and the cursor is at home: DECOM.
     Origin(bool),
+    /// All cells become blank, there are no margins, and the cursor is at home, where
+    /// [`Mode::Columns`] is set: DECCOLM. The screen has as many columns as before.
+    Columns,
     /// Whether the set G0 is that of line drawing: SCS.
     G0Draws(bool),
     /// Whether the set G1 is.

@@ -54,10 +54,11 @@ quiet_standard : (b : Bool) (n : ℕ) → is_quiet (standard_step b n) ≡ true
 quiet_standard b n = quiet_if (n == 4) _ _ refl (quiet_if (n == 20) _ _ refl refl)
 
 quiet_private : (b : Bool) (n : ℕ) → is_quiet (private_step b n) ≡ true
-quiet_private b n = quiet_if (n == 5) _ _ refl (quiet_if (n == 6) _ _ refl
-    (quiet_if (n == 7) _ _ refl (quiet_if (n == 25) _ _ refl (quiet_if (n == 47) _ _ refl
-    (quiet_if (n == 1047) _ _ refl (quiet_if (n == 1048) _ _ refl (quiet_if (n == 1049) _ _ refl
-    (quiet_if (n == 2026) _ _ refl refl))))))))
+quiet_private b n = quiet_if (n == 3) _ _ refl (quiet_if (n == 5) _ _ refl
+    (quiet_if (n == 6) _ _ refl (quiet_if (n == 7) _ _ refl (quiet_if (n == 25) _ _ refl
+    (quiet_if (n == 40) _ _ refl (quiet_if (n == 47) _ _ refl (quiet_if (n == 1047) _ _ refl
+    (quiet_if (n == 1048) _ _ refl (quiet_if (n == 1049) _ _ refl
+    (quiet_if (n == 2026) _ _ refl refl))))))))))
 
 quiet_numbered : (c : ModeChange) (n : ℕ) → is_quiet (numbered_step c n) ≡ true
 quiet_numbered changes.SetMode n = quiet_standard true n

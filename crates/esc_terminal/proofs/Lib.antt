@@ -8,3 +8,4 @@ pub mod Streams
 pub mod Handed
 pub mod Stepping
 pub mod Here
+pub mod RectangleSteps

@@ -12,7 +12,6 @@ use Rattle.esc_values.specs.declared.csi_param.CsiParam.{CsiParam}
 use Rattle.esc_frame.specs.Scans.{is_text_byte}
 use Rattle.esc_sequences.specs.Csis.{CsiValue, csi_of, unspecified}
 use Rattle.esc_sequences.specs.declared.csi.CSI.TheVariants as csi_variant
-use Rattle.typed_functions.specs.Functions.{of_params}
 use Rattle.esc_actions.specs.Values.{csi, value_of}
 use Rattle.esc_actions.specs.declared.action.Action.{Action}
 use Rattle.esc_actions.specs.declared.action.Action.TheVariants as action
@@ -21,7 +20,7 @@ use Rattle.esc_screen.specs.Printing.{narrow_printed}
 use Rattle.esc_screen.specs.Screens.{Becomes, grid_of, size_of}
 use Rattle.esc_screen.specs.Steps.{grid_from}
 use Rattle.esc_screen.specs.declared.step.Step.TheVariants as step
-use Rattle.esc_terminal.specs.Fed.{Takes, TakesAll, known_in, requests_in}
+use Rattle.esc_terminal.specs.Fed.{Takes, TakesSequence, known_in, requests_in}
 use Rattle.esc_terminal.specs.Kept.{has_column}
 use Rattle.esc_terminal.specs.Steps.{print_step, width_step}
 use Rattle.esc_terminal.specs.declared.state.State.{State}
@@ -114,7 +113,7 @@ IsSequence a c = value_of a ≡ csi c
 -- a sequence that is one value has the effect of the value
 pub sequence_taken : {A : Type 0} (p q : State A) (es : List CsiParam) (truncated : Bool) (f : ℕ)
     → truncated ≡ false → csi_of es truncated f ≡ unspecified es truncated f ∷ []
-    → TakesAll p (of_params es f) q
+    → TakesSequence p (unspecified es false f) q
     → FoldsTo (By (IsSequence {A = A}) Takes) p (csi_of es truncated f) q
 sequence_taken {A} p q es false f t is does =
     subst (λ vs. FoldsTo (By (IsSequence {A = A}) Takes) p vs q) (sym is)

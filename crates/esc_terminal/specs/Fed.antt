@@ -5,14 +5,15 @@ use Rattle.esc_actions.specs.Values.{Value, value_of}
 use Rattle.esc_actions.specs.declared.action.Action.{Action}
 use Rattle.esc_terminal.specs.Links.{Known, known_of}
 use Rattle.esc_parse.specs.Fed.{ParserHasConsumedWithin}
-use Rattle.typed_functions.specs.Functions.{Value as Function}
+use Rattle.esc_sequences.specs.Csis.{CsiValue}
+use Rattle.typed_functions.specs.Functions.{Value as Function, of_csi}
 use Rattle.esc_screen.specs.Grids.{Size}
 use Rattle.esc_screen.specs.Screens.{Becomes, grid_of, size_of}
 use Rattle.esc_screen.specs.Steps.{grid_from}
 use Rattle.esc_screen.specs.declared.screen.Screen.{Screen}
 use Rattle.esc_screen.specs.declared.step.Step.{Step}
 use Rattle.esc_terminal.specs.Requests.{function_request, request_list, requests_of}
-use Rattle.esc_terminal.specs.Steps.{function_known, function_steps, known_by, steps_of}
+use Rattle.esc_terminal.specs.Steps.{csi_steps, function_known, function_steps, known_by, steps_of}
 use Rattle.esc_terminal.specs.Streams.{Shown, asked_by, shown_of, title_by}
 use Rattle.esc_terminal.specs.declared.request.Request.{Request}
 use Rattle.esc_terminal.specs.declared.state.State.{State}
@@ -54,6 +55,12 @@ TakesFunction p f q = Does p (function_steps (known_in p) p.screen.cursor f)
 abbrev pub TakesAll : {A : Type 0} → State A → Function → State A → Type 0
 TakesAll p f q = Does p (function_steps (known_in p) p.screen.cursor f)
     (function_known (known_in p) p.screen.cursor f) p.title (request_list (function_request f)) q
+
+-- and so does a control sequence
+abbrev pub TakesSequence : {A : Type 0} → State A → CsiValue → State A → Type 0
+TakesSequence p c q = Does p (csi_steps (known_in p) p.screen.cursor c)
+    (function_known (known_in p) p.screen.cursor (of_csi c)) p.title
+    (request_list (function_request (of_csi c))) q
 
 -- a value does what its steps do
 abbrev pub TakesValue : {A : Type 0} → State A → Value A → State A → Type 0

@@ -5,15 +5,16 @@ use Rattle.esc_values.specs.Params.{is_from}
 use Rattle.esc_actions.specs.Values.{value_of}
 use Rattle.esc_actions.specs.Meaning.{yield_within}
 use Rattle.esc_actions.specs.declared.action.Action.{Action}
+use Rattle.esc_sequences.specs.Csis.{CsiValue}
 use Rattle.typed_functions.specs.Functions.{Value as Function}
 use Rattle.esc_screen.specs.Grids.{Size}
 use Rattle.esc_screen.specs.Screens.{grid_of, size_of}
 use Rattle.esc_screen.specs.Scrolled.{off_from}
 use Rattle.esc_screen.specs.declared.cell.Cell.{Cell}
 use Rattle.esc_screen.specs.declared.step.Step.{Step}
-use Rattle.esc_terminal.specs.Fed.{Takes, TakesAll, TakesIn, TakesSteps, known_in, shown_in}
+use Rattle.esc_terminal.specs.Fed.{Takes, TakesAll, TakesIn, TakesSequence, TakesSteps, known_in, shown_in}
 use Rattle.esc_terminal.specs.Scrolled.{Row, off_after, off_by_value, with_known}
-use Rattle.esc_terminal.specs.Steps.{function_steps}
+use Rattle.esc_terminal.specs.Steps.{csi_steps, function_steps}
 use Rattle.esc_terminal.specs.Streams.{shown_of}
 use Rattle.esc_terminal.specs.declared.keeping.Keeping.{Keeping}
 use Rattle.esc_terminal.specs.declared.state.State.{State}
@@ -54,6 +55,14 @@ KeepsFunction takes p f q = TakesAll p.state f q.state
     × FoldsTo takes p.rows (with_known (known_in p.state)
     (off_from (size_of p.state.screen) (grid_of p.state.screen)
     (function_steps (known_in p.state) p.state.screen.cursor f))) q.rows
+
+-- of a control sequence
+abbrev pub KeepsSequence : {R A : Type 0} → (R → Row → R → Type 0) → Keeping R A → CsiValue
+    → Keeping R A → Type 0
+KeepsSequence takes p c q = TakesSequence p.state c q.state
+    × FoldsTo takes p.rows (with_known (known_in p.state)
+    (off_from (size_of p.state.screen) (grid_of p.state.screen)
+    (csi_steps (known_in p.state) p.state.screen.cursor c))) q.rows
 
 -- and of an action
 abbrev pub KeepsAction : {R A : Type 0} → (R → Row → R → Type 0) → Keeping R A → Action A

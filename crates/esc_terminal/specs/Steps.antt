@@ -1,8 +1,10 @@
 -- The steps of a screen for each value of a stream, by the names of ECMA-48, DEC and xterm.
-use Rattle.std.specs.Prelude.{ℕ, ◌+◌, ◌-◌, ◌==◌, nat_lt, min, Bool, true, false, if◌then◌else◌, List, [], ◌∷◌, Option, Some, None}
+use Rattle.std.specs.Prelude.{ℕ, ℤ, ◌+◌, ◌-◌, ◌==◌, nat_lt, min, pos, negsuc, Bool, true, false, ◌&&◌, ◌||◌, if◌then◌else◌, List, [], ◌∷◌, ◌++◌, length, Option, Some, None}
 use Rattle.unicode_width.specs.Width.{char_width}
 use Rattle.esc_values.specs.Params.{is_from}
 use Rattle.esc_values.specs.declared.csi_param.CsiParam.{CsiParam}
+use Rattle.esc_values.specs.declared.csi_param.CsiParam.TheVariants.{Integer, P}
+use Rattle.esc_sequences.specs.Csis.{CsiValue, sgr, unspecified}
 use Rattle.esc_actions.specs.Values.{Value, print, control, esc, csi, osc}
 use Rattle.esc_actions.specs.declared.control_code.ControlCode.{ControlCode}
 use Rattle.esc_actions.specs.declared.control_code.ControlCode.TheVariants as code
@@ -37,6 +39,7 @@ use Rattle.typed_functions.specs.declared.tabulation_clear.TabulationClear.{Tabu
 use Rattle.typed_functions.specs.declared.tabulation_clear.TabulationClear.TheVariants as clear
 use Rattle.esc_style.specs.Looks.{look_by_all}
 use Rattle.esc_style.specs.declared.look.Look.{Look}
+use Rattle.esc_screen.specs.declared.area.Area.{Area}
 use Rattle.esc_screen.specs.declared.change.Change.TheVariants as change
 use Rattle.esc_screen.specs.declared.cursor.Cursor.{Cursor as Place}
 use Rattle.esc_screen.specs.declared.mode.Mode.TheVariants as mode
@@ -219,13 +222,15 @@ standard_step b n = if n == 4 then Set (setting.Mode mode.Insert b)
 abbrev pub chosen : Bool → Setting → Setting → Setting
 chosen b x y = if b then x else y
 
--- DECSCNM, DECOM, DECAWM, DECTCEM; the alternate screen and the saved cursor of xterm;
--- synchronized output
+-- DECCOLM, set or reset; DECSCNM, DECOM, DECAWM, DECTCEM; the mode of xterm that allows DECCOLM;
+-- the alternate screen and the saved cursor of xterm; synchronized output
 abbrev pub private_step : Bool → ℕ → Step
-private_step b n = if n == 5 then Set (setting.Mode mode.ReverseVideo b)
+private_step b n = if n == 3 then Set setting.Columns
+    else if n == 5 then Set (setting.Mode mode.ReverseVideo b)
     else if n == 6 then Set (setting.Origin b)
     else if n == 7 then Set (setting.Mode mode.AutoWrap b)
     else if n == 25 then Set (setting.Mode mode.ShowCursor b)
+    else if n == 40 then Set (setting.Mode mode.Columns b)
     else if n == 47 then Set (chosen b setting.ShowAlternate setting.ShowMain)
     else if n == 1047 then Set (chosen b setting.ShowAlternate setting.ClearAlternate)
     else if n == 1048 then Set (chosen b setting.Save setting.Restore)
@@ -270,6 +275,73 @@ abbrev pub choice_steps : TabChange → List (Option ℕ × List CsiParam) → L
 choice_steps c [] = []
 choice_steps c (n ∷ ns) = choice_step c n.0 ∷ choice_steps c ns
 
+-- ---- rectangles
+
+-- whether parameters are numbers, with `;` between them, and then `$`
+abbrev pub is_dollared : List CsiParam → Bool
+is_dollared [] = false
+is_dollared (Integer i ∷ es) = is_dollared es
+is_dollared (P b ∷ es) = if b == 0x3b then is_dollared es else b == 0x24 && length es == 0
+
+abbrev pub if_dollared : List CsiParam → Step → Step
+if_dollared es x = if is_dollared es then x else Nothing
+
+-- a number, where a screen counts to 65,535
+abbrev pub counted : ℤ → ℕ
+counted (pos n) = min n 0xffff
+counted (negsuc n) = 0
+
+-- that of a parameter, or 0 where it has none
+abbrev pub number_at : ℕ → List CsiParam → ℕ
+number_at k [] = 0
+number_at k (Integer i ∷ es) = if k == 0 then counted i else number_at k es
+number_at k (P b ∷ es) = if b == 0x3b
+    then if k == 0 then 0 else number_at (k - 1) es
+    else number_at k es
+
+-- a row or a column, from 0 on: 0 is the first one, and at the end of a rectangle the last one
+abbrev pub start_at : ℕ → List CsiParam → ℕ
+start_at k es = number_at k es - 1
+
+abbrev pub end_of : ℕ → ℕ
+end_of n = if n == 0 then 0xffff else n - 1
+
+abbrev pub end_at : ℕ → List CsiParam → ℕ
+end_at k es = end_of (number_at k es)
+
+-- the rectangle of four parameters
+abbrev pub area_at : ℕ → List CsiParam → Area
+area_at k es = record {
+  top = start_at k es;
+  left = start_at (k + 1) es;
+  bottom = end_at (k + 2) es;
+  right = end_at (k + 3) es;
+}
+
+-- DECFRA: with a character of one column that is no control
+abbrev pub is_fill : ℕ → Bool
+is_fill c = is_from 0x20 0x7e c || is_from 0xa0 0xff c
+
+abbrev pub filled_by : Step → Area → Step
+filled_by (Print c) r = Edited (change.FillArea c r)
+filled_by _ r = Nothing
+
+abbrev pub fill_step : ℕ → Area → Step
+fill_step c r = if is_fill c then filled_by (print_step c) r else Nothing
+
+-- by the final byte: DECERA; DECSERA, which erases the same, since nothing is protected; DECFRA
+abbrev pub sequence_step : List CsiParam → ℕ → Step
+sequence_step es last =
+    if last == 0x7a then if_dollared es (Edited (change.EraseArea (area_at 0 es)))
+    else if last == 0x7b then if_dollared es (Edited (change.EraseArea (area_at 0 es)))
+    else if last == 0x78 then if_dollared es (fill_step (number_at 0 es) (area_at 1 es))
+    else Nothing
+
+-- the step of a control sequence, where it changes a rectangle, and none otherwise
+abbrev pub csi_step : CsiValue → Step
+csi_step (sgr s) = Nothing
+csi_step (unspecified es truncated last) = if truncated then Nothing else sequence_step es last
+
 -- ---- values
 
 -- SGR: how the characters look that come, which lead where those before them do
@@ -299,6 +371,10 @@ function_steps ks k (renditions rs) =
     selected_steps (look_by_all (known_look k.look ks) rs) k.look ks
 function_steps ks k _ = []
 
+-- the steps of a control sequence: those of its function, and that of a rectangle
+abbrev pub csi_steps : Known → Place → CsiValue → List Step
+csi_steps ks k c = function_steps ks k (of_csi c) ++ csi_step c ∷ []
+
 -- the step that a function is, where it is one and asks for no look
 abbrev pub one_step : Place → Function → Option Step
 one_step k (cursor c) = Some (cursor_step k c)
@@ -319,7 +395,7 @@ abbrev pub steps_of : {A : Type 0} → Known → Place → Value A → List Step
 steps_of ks k (print c) = print_step c ∷ []
 steps_of ks k (control c) = control_step c ∷ []
 steps_of ks k (esc e) = function_steps ks k (of_escape e)
-steps_of ks k (csi c) = function_steps ks k (of_csi c)
+steps_of ks k (csi c) = csi_steps ks k c
 steps_of ks k (osc c) = lead_steps k ks (lead_in c)
 steps_of ks k _ = []
 

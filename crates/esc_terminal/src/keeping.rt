@@ -3,12 +3,14 @@ ghost use Rattle.std.specs.Prelude.{◌≡◌, ◌⊎◌, IsTrue, OnErr, OnOk, m
 ghost use Rattle.std.specs.List.{FoldsTo};
 ghost use Rattle.esc_actions.specs.declared.action.Action.TheVariants as action;
 ghost use Rattle.esc_frame.specs.Scans.{IsRun, is_text_byte};
+ghost use Rattle.esc_sequences.specs.Csis.{csi_value};
 ghost use Rattle.esc_screen.specs.Scrolled.{gone_by};
 ghost use Rattle.esc_screen.specs.Screens.{grid_of, size_of};
-ghost use Rattle.esc_terminal.specs.Kept.{HandsOut, HasColumns, KeepsAction, KeepsFunction, KeepsStep, has_room};
+ghost use Rattle.esc_terminal.specs.Kept.{HandsOut, HasColumns, KeepsAction, KeepsFunction, KeepsSequence, KeepsStep, has_room};
 ghost use Rattle.typed_functions.specs.Functions.{value_of as function_value};
 ghost use Rattle.fallible_alloc.specs.Refusals.{Refused};
 
+use crate::rectangles::csi_step;
 use crate::request::request_of;
 use crate::rows::Rows;
 use crate::state::State;
@@ -16,6 +18,7 @@ use crate::steps::{control_step, one_step, print_step};
 use esc_actions::Action;
 use esc_parse::Sink;
 use esc_screen::Step;
+use esc_sequences::CSI;
 use memchr::memchr;
 use std::alloc::{AllocError, Allocator, Global};
 use typed_functions::Function;
@@ -115,6 +118,17 @@ impl<R: Rows, A: Allocator + Copy> Keeping<R, A> {
             None => self.state.take_function(function),
         }
     }
+
+    // Takes a control sequence. A step of a rectangle scrolls nothing off.
+    fn take_csi(&mut self, csi: &CSI<A>) -> Result<(), AllocError>
+        ensures ok { OnOk result (KeepsSequence R.takes self.old (csi_value csi.now) self.new) }
+        ensures failed { OnErr result (Refused A ⊎ R.fails) }
+    {
+        let function = Function::of(csi);
+        self.take_function(function)?;
+        self.state.screen.take(csi_step(csi));
+        Ok(())
+    }
 }
 
 /// Each action has the effect of its value.
@@ -133,7 +147,7 @@ impl<R: Rows, A: Allocator + Copy> Sink<Action<A>> for Keeping<R, A> {
             Action::Print(c) => self.take_step(print_step(c)),
             Action::Control(code) => self.take_step(control_step(code)),
             Action::Esc(esc) => self.take_function(Function::of_escape(esc)),
-            Action::CSI(csi) => self.take_function(Function::of(&csi)),
+            Action::CSI(csi) => self.take_csi(&csi),
             Action::OperatingSystemCommand(command) => {
                 self.state.take(Action::OperatingSystemCommand(command))
             }

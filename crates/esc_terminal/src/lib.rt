@@ -19,6 +19,7 @@ mod linked;
 mod links;
 mod looks;
 mod receiving;
+mod rectangles;
 pub mod request;
 pub mod row_text;
 pub mod rows;

@@ -8,7 +8,6 @@ use esc_parse::Sink;
 use esc_sequences::csi::is_unspecified;
 use esc_values::CsiParam;
 use std::alloc::{AllocError, Allocator};
-use typed_functions::Function;
 
 /// Each action has the effect of its value.
 impl<A: Allocator + Copy> Sink<Action<A>> for State<A> {
@@ -46,8 +45,7 @@ impl<A: Allocator + Copy> Sink<Action<A>> for State<A> {
         if parameters_truncated || !is_unspecified(params, parameters_truncated, control) {
             return Ok(false);
         }
-        let function = Function::of_params(params, control);
-        self.take_function(function)?;
+        self.take_sequence(params, control)?;
         Ok(true)
     }
 

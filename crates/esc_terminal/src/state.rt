@@ -1,13 +1,14 @@
 //! The state of a terminal, value by value.
-ghost use Rattle.std.specs.Prelude.{◌≡◌, [], ◌∷◌, None, OnErr, OnOk, IfOk, map, true};
+ghost use Rattle.std.specs.Prelude.{◌≡◌, [], ◌∷◌, false, None, OnErr, OnOk, IfOk, map, true};
 ghost use Rattle.std.specs.List.{FoldsTo};
 ghost use Rattle.std.specs.Str.{chars};
 ghost use Rattle.esc_actions.specs.declared.action.Action.TheVariants as action;
 ghost use Rattle.esc_frame.specs.Scans.{IsRun, is_text_byte};
 ghost use Rattle.esc_style.specs.Looks.{look_by_all};
+ghost use Rattle.esc_sequences.specs.Csis.{csi_value, unspecified};
 ghost use Rattle.esc_screen.specs.Grids.{first_grid};
 ghost use Rattle.esc_screen.specs.Screens.{grid_of, size_of};
-ghost use Rattle.esc_terminal.specs.Fed.{Does, Takes, TakesAll, TakesFunction, TakesSteps, known_in, requests_in, screen_size};
+ghost use Rattle.esc_terminal.specs.Fed.{Does, Takes, TakesAll, TakesFunction, TakesSequence, TakesSteps, known_in, requests_in, screen_size};
 ghost use Rattle.esc_terminal.specs.Links.{first_known, known_by_lead, known_by_look, known_look, lead_in, lead_in_parts, lead_of};
 ghost use Rattle.esc_terminal.specs.Requests.{request_list};
 ghost use Rattle.esc_terminal.specs.Steps.{choice_steps, lead_known, lead_steps, mode_steps, selected_steps};
@@ -18,6 +19,7 @@ ghost use Rattle.fallible_alloc.specs.Refusals.{Refused};
 
 use crate::link_parts::link_in_parts;
 use crate::looks::erased_look;
+use crate::rectangles::{csi_step, sequence_step};
 use crate::request::{Request, request_of};
 use crate::steps::{
     charset_step, choice_step, control_step, cursor_step, device_step, edit_step, escape_step,
@@ -27,8 +29,9 @@ use crate::styles::Styles;
 use esc_actions::Action;
 use esc_osc::{Hyperlink, OperatingSystemCommand};
 use esc_screen::{Cursor, Screen, Setting, Step};
+use esc_sequences::CSI;
 use esc_style::Look;
-use esc_values::{Items, Text};
+use esc_values::{CsiParam, Items, Text};
 use memchr::memchr;
 use std::alloc::{AllocError, Allocator, Global};
 use typed_functions::{Function, ModeChange, Modes, Renditions, TabChange};
@@ -246,6 +249,29 @@ impl<A: Allocator> State<A> {
         self.ask(request_of(function))
     }
 
+    /// Takes a control sequence with all of these parameters and this final byte.
+    pub fn take_sequence(&mut self, params: &[CsiParam], last: u8) -> Result<(), AllocError>
+        ensures ok { OnOk result (TakesSequence self.old (unspecified params.now false last)
+            self.new) }
+        ensures refused { OnErr result (Refused A) }
+    {
+        let function = Function::of_params(params, last);
+        self.take_function(function)?;
+        self.screen.take(sequence_step(params, last));
+        Ok(())
+    }
+
+    // Takes a control sequence.
+    fn take_csi(&mut self, csi: &CSI<A>) -> Result<(), AllocError>
+        ensures ok { OnOk result (TakesSequence self.old (csi_value csi.now) self.new) }
+        ensures refused { OnErr result (Refused A) }
+    {
+        let function = Function::of(csi);
+        self.take_function(function)?;
+        self.screen.take(csi_step(csi));
+        Ok(())
+    }
+
     // Takes a command for the title.
     fn take_title(&mut self, command: OperatingSystemCommand<A>)
         ensures { Does self.old [] (known_in self.old) (title_by_command self.old.title command)
@@ -309,7 +335,7 @@ impl<A: Allocator + Copy> State<A> {
                 Ok(())
             }
             Action::Esc(esc) => self.take_function(Function::of_escape(esc)),
-            Action::CSI(csi) => self.take_function(Function::of(&csi)),
+            Action::CSI(csi) => self.take_csi(&csi),
             Action::OperatingSystemCommand(command) => self.take_command(command.into_inner()),
             _ => Ok(()),
         }

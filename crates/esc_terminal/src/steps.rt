@@ -300,10 +300,12 @@ fn private_step(on: bool, number: u64) -> Step
     ensures { result ≡ private_step on number }
 {
     match number {
+        3 => Step::Set(Setting::Columns),
         5 => Step::Set(Setting::Mode(Mode::ReverseVideo, on)),
         6 => Step::Set(Setting::Origin(on)),
         7 => Step::Set(Setting::Mode(Mode::AutoWrap, on)),
         25 => Step::Set(Setting::Mode(Mode::ShowCursor, on)),
+        40 => Step::Set(Setting::Mode(Mode::Columns, on)),
         47 => Step::Set(chosen(on, Setting::ShowAlternate, Setting::ShowMain)),
         1047 => Step::Set(chosen(on, Setting::ShowAlternate, Setting::ClearAlternate)),
         1048 => Step::Set(chosen(on, Setting::Save, Setting::Restore)),

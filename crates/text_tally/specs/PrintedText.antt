@@ -1,9 +1,12 @@
 -- The text that a stream prints.
-use Rattle.std.specs.Prelude.{ℕ, ◌*◌, min, List, Some}
+use Rattle.std.specs.Prelude.{ℕ, ◌*◌, ◌-◌, ◌==◌, min, Bool, false, ◌&&◌, if◌then◌else◌, List, length, get_or, Some}
 use Rattle.std.specs.Char.{len_utf8}
 use Rattle.std.specs.List.{sum_by}
 use Rattle.esc_actions.specs.Meaning.{meaning_within}
 use Rattle.esc_actions.specs.Values.{Value, csi, esc, print}
+use Rattle.esc_sequences.specs.Csis.{CsiValue, sgr, unspecified}
+use Rattle.esc_values.specs.declared.csi_param.CsiParam.{CsiParam}
+use Rattle.esc_values.specs.declared.csi_param.CsiParam.TheVariants.{Integer, P}
 use Rattle.typed_functions.specs.Counts.{one_based}
 use Rattle.typed_functions.specs.Escapes.{of_escape}
 use Rattle.typed_functions.specs.Functions.{Value as Function, edit, escape, of_csi}
@@ -28,11 +31,25 @@ made_by rows columns (edit e) = repeated_by columns e
 made_by rows columns (escape e) = drawn_by rows columns e
 made_by rows columns _ = 0
 
+-- Whether a control sequence is DECFRA, which draws one in each cell of a rectangle.
+abbrev pub is_dollar : CsiParam → Bool
+is_dollar (P b) = b == 0x24
+is_dollar (Integer i) = false
+
+abbrev pub fills : CsiValue → Bool
+fills (sgr s) = false
+fills (unspecified es truncated last) = last == 0x78
+    && is_dollar (get_or es (length es - 1) (P 0))
+
+abbrev pub made_in : ℕ → ℕ → CsiValue → ℕ
+made_in rows columns c = if fills c then up_to_most (rows * columns)
+    else made_by rows columns (of_csi c)
+
 -- those that a value prints, or makes at most
 abbrev pub chars_of : {A : Type 0} → ℕ → ℕ → Value A → ℕ
 chars_of rows columns (print c) = 1
 chars_of rows columns (esc e) = made_by rows columns (of_escape e)
-chars_of rows columns (csi c) = made_by rows columns (of_csi c)
+chars_of rows columns (csi c) = made_in rows columns c
 chars_of rows columns _ = 0
 
 -- the bytes of the one that it prints

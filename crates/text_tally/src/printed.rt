@@ -1,12 +1,16 @@
 //! The text that a stream prints.
-ghost use Rattle.std.specs.Prelude.{◌≡◌};
+ghost use Rattle.std.specs.Prelude.{◌≡◌, ◌-◌, get_or, length};
 ghost use Rattle.esc_actions.specs.Values.{value_of};
+ghost use Rattle.esc_sequences.specs.Csis.{csi_value};
+ghost use Rattle.esc_values.specs.declared.csi_param.CsiParam.TheVariants.{P};
 ghost use Rattle.typed_functions.specs.Functions.{value_of as function_value};
-ghost use Rattle.text_tally.specs.PrintedText.{bytes_of, chars_of, drawn_by, made_by, repeated_by};
+ghost use Rattle.text_tally.specs.PrintedText.{bytes_of, chars_of, drawn_by, fills, is_dollar, made_by, made_in, repeated_by};
 
 use crate::amount::Amount;
 use esc_actions::Action;
 use esc_parse::Sink;
+use esc_sequences::CSI;
+use esc_values::CsiParam;
 use std::alloc::{AllocError, Allocator};
 use typed_functions::{Edit, Escape, Function};
 
@@ -40,8 +44,19 @@ impl Printed {
         match action {
             Action::Print(_) => 1,
             Action::Esc(esc) => self.made_by(Function::of_escape(*esc)),
-            Action::CSI(csi) => self.made_by(Function::of(csi)),
+            Action::CSI(csi) => self.made_in(csi),
             _ => 0,
+        }
+    }
+
+    // How many characters a control sequence makes at most.
+    fn made_in<A: Allocator>(self, csi: &CSI<A>) -> u64
+        ensures { result ≡ made_in self.rows self.columns (csi_value csi.now) }
+    {
+        if fills(csi) {
+            (self.rows as u64).saturating_mul(self.columns as u64)
+        } else {
+            self.made_by(Function::of(csi))
         }
     }
 }
@@ -63,6 +78,37 @@ fn drawn_by(rows: u16, columns: u16, escape: Escape) -> u64
     match escape {
         Escape::DecScreenAlignmentDisplay => (rows as u64).saturating_mul(columns as u64),
         _ => 0,
+    }
+}
+
+// Whether it is DECFRA, which draws a character in each cell of a rectangle.
+fn fills<A: Allocator>(csi: &CSI<A>) -> bool
+    ensures { result ≡ fills (csi_value csi.now) }
+{
+    match csi {
+        CSI::Sgr(_) => false,
+        CSI::Unspecified(sequence) => {
+            let sequence = sequence.as_ref();
+            sequence.control == b'x' && ends_in_dollar(sequence.params.as_slice())
+        }
+    }
+}
+
+fn ends_in_dollar(params: &[CsiParam]) -> bool
+    ensures { result ≡ is_dollar (get_or params.now (length params.now - 1) (P 0)) }
+{
+    match params.last() {
+        Some(param) => is_dollar(*param),
+        None => false,
+    }
+}
+
+fn is_dollar(param: CsiParam) -> bool
+    ensures { result ≡ is_dollar param }
+{
+    match param {
+        CsiParam::P(byte) => byte == b'$',
+        CsiParam::Integer(_) => false,
     }
 }
 

@@ -216,6 +216,8 @@ impl<A: Allocator> Screen<A> {
             Change::DeleteColumns(n) => self.move_within(false, n, self.cursor.column),
             Change::BackIndex => self.index_back(),
             Change::ForwardIndex => self.index_on(),
+            Change::EraseArea(area) => self.erase_area(area),
+            Change::FillArea(c, area) => self.draw_area(c, area),
             Change::Align => self.align(),
         }
     }

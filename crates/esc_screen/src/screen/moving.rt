@@ -33,7 +33,7 @@ impl<A: Allocator> Screen<A> {
         row.saturating_add(count).min(end.saturating_sub(1))
     }
 
-    fn row_by(&self, number: u16) -> u16
+    pub(crate) fn row_by(&self, number: u16) -> u16
         ensures { result ≡ row_by (size_of self.now) number (grid_of self.now) }
     {
         if self.cursor.origin {
@@ -45,7 +45,7 @@ impl<A: Allocator> Screen<A> {
         }
     }
 
-    fn column_by(&self, number: u16) -> u16
+    pub(crate) fn column_by(&self, number: u16) -> u16
         ensures { result ≡ column_by (size_of self.now) number }
     {
         number.min(self.max_columns.saturating_sub(1))

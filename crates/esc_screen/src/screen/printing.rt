@@ -114,7 +114,7 @@ impl<A: Allocator> Screen<A> {
     }
 
     // Returns the character that is shown for this one.
-    fn shown(&self, c: char) -> char
+    pub(crate) fn shown(&self, c: char) -> char
         ensures { result ≡ shown self.now.cursor c }
     {
         if self.cursor.draws() {

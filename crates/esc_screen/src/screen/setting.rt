@@ -1,6 +1,6 @@
 //! Changes of the state.
 ghost use Rattle.esc_screen.specs.Screens.{Becomes, grid_of, size_of};
-ghost use Rattle.esc_screen.specs.Settings.{alternate_cleared, exchanged_screens, grid_by_setting, reset_grid, restored_grid, scrolling, softly_reset_grid, tab_set, to_alternate, to_main, with_origin};
+ghost use Rattle.esc_screen.specs.Settings.{alternate_cleared, emptied_grid, exchanged_screens, grid_by_setting, reset_grid, restored_grid, scrolling, softly_reset_grid, tab_set, to_alternate, to_main, with_columns, with_origin};
 
 use crate::cursor::Cursor;
 use crate::modes::Modes;
@@ -36,6 +36,23 @@ impl<A: Allocator> Screen<A> {
     {
         self.cursor.origin = on;
         self.position(0, 0);
+    }
+
+    fn empty(&mut self)
+        ensures { Becomes self.old (emptied_grid (size_of self.old) (grid_of self.old)) self.new }
+    {
+        self.erase_rows(0, self.max_rows as usize);
+        self.top = 0;
+        self.bottom = self.max_rows;
+        self.move_to(0, 0);
+    }
+
+    fn set_columns(&mut self)
+        ensures { Becomes self.old (with_columns (size_of self.old) (grid_of self.old)) self.new }
+    {
+        if self.modes.columns {
+            self.empty();
+        }
     }
 
     fn exchange(&mut self)
@@ -129,6 +146,7 @@ impl<A: Allocator> Screen<A> {
             Setting::Margins(m, n) => self.set_margins(m, n),
             Setting::Mode(mode, on) => self.modes = self.modes.with(mode, on),
             Setting::Origin(on) => self.set_origin(on),
+            Setting::Columns => self.set_columns(),
             Setting::G0Draws(on) => self.cursor.g0_draws = on,
             Setting::G1Draws(on) => self.cursor.g1_draws = on,
             Setting::Shift(on) => self.cursor.shifted = on,
