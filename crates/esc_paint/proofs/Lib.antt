@@ -1,8 +1,13 @@
 mod Rows
 mod Painted
 mod Screens
+mod Alike
+mod Leading
 mod Texts
 mod Pieces
 mod Plain
 mod Shown
+mod Led
+mod Bounds
 mod Writing
+mod Changing

@@ -1,5 +1,7 @@
 -- The text of a screen that looks plain is read as this screen.
-use Rattle.std.proofs.Common.{ℕ, zero, suc, ◌≡◌, ◌+◌, ◌<◌, ◌≤◌, Bool, true, false, List, [], ◌∷◌, ◌++◌, length, get_or, Option, None, Some, if◌then◌else◌, sym, subst, arith}
+use Rattle.std.proofs.Common.{ℕ, zero, suc, ◌≡◌, ◌+◌, ◌-◌, ◌<◌, ◌≤◌, Bool, true, false, List, [], ◌∷◌, ◌++◌, length, drop, get_or, Option, None, Some, if◌then◌else◌, refl, sym, subst, arith}
+use Rattle.std.proofs.lemmas.Bool.Decides.{nat_tests}
+use Rattle.std.proofs.lemmas.List.{length-drop}
 use Rattle.esc_values.specs.Clear.{is_clear}
 use Rattle.esc_style.specs.Looks.{plain_look}
 use Rattle.esc_style.specs.declared.look.Look.{Look}
@@ -10,22 +12,30 @@ use Rattle.esc_screen.specs.declared.content.Content.{Content}
 use Rattle.esc_screen.specs.declared.content.Content.TheVariants as content
 use Rattle.esc_screen.specs.declared.marks.Marks.{Marks}
 use Rattle.esc_paint.specs.declared.pen.Pen.{Pen}
-use Rattle.esc_paint.specs.Pieces.{Piece, character, place}
+use Rattle.esc_paint.specs.Pieces.{Piece, character, place, soft_reset}
 use Rattle.esc_paint.specs.Painting.{cells_pieces, content_pieces, cursor_pieces, drawn_pieces, is_waiting, marks_pieces, paint_pieces, pen_by, placed, row_again, row_pieces, rows_pieces}
+use Rattle.esc_paint.specs.Differences.{is_other, rest_pieces, row_changes, rows_changes, same_cells}
 use Rattle.esc_paint.specs.Drawn.{AllDrawn, AreDrawn, AreMarks, IsDrawn, IsMarked}
 use Rattle.esc_paint.specs.Laws.{AllLookPlain, LookPlain}
 use Rattle.esc_paint.proofs.Pieces.{AllFit}
 
-fit_two : (ps qs : List Piece) → AllFit ps → AllFit qs → AllFit (ps ++ qs)
+pub fit_two : (ps qs : List Piece) → AllFit ps → AllFit qs → AllFit (ps ++ qs)
 fit_two [] qs h k = k
 fit_two (p ∷ ps) qs h k = (h.0, fit_two ps qs h.1 k)
 
-abbrev plain_pen : Bool → Pen
+abbrev pub plain_pen : Bool → Pen
 plain_pen b = record {
   here = b;
   look = plain_look;
   back = plain_look;
 }
+
+-- ---- the cells from a column on
+
+pub drawn_drop : (n : ℕ) (xs : List Cell) → AreDrawn xs → AreDrawn (drop n xs)
+drawn_drop zero xs h = h
+drawn_drop (suc n) [] h = tt
+drawn_drop (suc n) (x ∷ xs) h = drawn_drop n xs h.1
 
 -- ---- cells
 
@@ -53,6 +63,11 @@ drawn_fit b r n c m h k clear marked =
     (clear, marks_fit m.first m.second m.others marked)
 
 module _ (f : ℕ → Look) where
+  pub plain_drop : (n : ℕ) (xs : List Cell) → LookPlain f xs → LookPlain f (drop n xs)
+  plain_drop zero xs h = h
+  plain_drop (suc n) [] h = tt
+  plain_drop (suc n) (x ∷ xs) h = plain_drop n xs h.1
+
   abbrev Fit : ℕ → List Cell → Type 0
   Fit r xs = (n : ℕ) (b : Bool) → n + length xs ≤ 65536
       → AllFit (cells_pieces f r n (plain_pen b) xs)
@@ -138,4 +153,64 @@ module _ (f : ℕ → Look) where
               (rows_fit s g.rows 0 s.rows all most_rows most d plain full.width)
               (cursor_fits (is_waiting s g) s g full on few most d plain),
         ),
+      )
+
+  -- ---- what leads to it
+
+  rest_fits : (s : Size) (r n : ℕ) (xs : List Cell) → s.columns ≤ 65536 → r < 65536
+      → n < length xs → AreDrawn xs → LookPlain f xs → length xs ≡ s.columns
+      → AllFit (rest_pieces f r n xs)
+  rest_fits s r n xs most less inside d plain wide =
+      let rest : length (drop n xs) ≡ length xs - n = length-drop n xs in
+      let few : n + length (drop n xs) ≤ 65536 = omega (arith, rest, inside, wide, most) in (
+        (less, omega (arith, inside, wide, most)),
+        (
+          tt,
+          cells_fit r (drop n xs) less (drawn_drop n xs d) (plain_drop n xs plain) n true few,
+        ),
+      )
+
+  row_changes_fit : (e : ℕ → Look) (s : Size) (r : ℕ) (xs ys : List Cell) → s.columns ≤ 65536
+      → r < 65536 → AreDrawn ys → LookPlain f ys → length ys ≡ s.columns
+      → AllFit (row_changes e f r xs ys)
+  row_changes_fit e s r xs ys most less d plain wide = by_test (is_other e f xs ys) refl
+    where
+      by_test : (t : Bool) → is_other e f xs ys ≡ t
+          → AllFit (if t then rest_pieces f r (same_cells e f xs ys) ys else [])
+      by_test true is =
+          let inside : same_cells e f xs ys < length ys = grind (arith, nat_tests) in
+          rest_fits s r (same_cells e f xs ys) ys most less inside d plain wide
+      by_test false is = tt
+
+  change_fits : (e : ℕ → Look) (s : Size) (r : ℕ) (xs : List Cell) (yss : List (List Cell)) (i : ℕ)
+      → i < length yss → s.columns ≤ 65536 → r < 65536 → AllDrawn yss → AllLookPlain f yss
+      → AreWide s.columns yss → AllFit (row_changes e f r xs (get_or yss i []))
+  change_fits e s r xs [] i inside most less d plain wide = absurd (omega (arith, inside))
+  change_fits e s r xs (ys ∷ yss) zero inside most less d plain wide =
+      row_changes_fit e s r xs ys most less d.0 plain.0 wide.0
+  change_fits e s r xs (ys ∷ yss) (suc i) inside most less d plain wide =
+      change_fits e s r xs yss i (omega (arith, inside)) most less d.1 plain.1 wide.1
+
+  changes_fit : (e : ℕ → Look) (s : Size) (xss yss : List (List Cell)) (r n : ℕ)
+      → r + n ≤ length yss → length yss ≤ 65536 → s.columns ≤ 65536 → AllDrawn yss
+      → AllLookPlain f yss → AreWide s.columns yss → AllFit (rows_changes e f xss yss r n)
+  changes_fit e s xss yss r zero all few most d plain wide = tt
+  changes_fit e s xss yss r (suc n) all few most d plain wide =
+      fit_two (row_changes e f r (get_or xss r []) (get_or yss r []))
+      (rows_changes e f xss yss (r + 1) n)
+      (change_fits e s r (get_or xss r []) yss r (omega (arith, all)) most
+      (omega (arith, all, few)) d plain wide)
+      (changes_fit e s xss yss (r + 1) n (omega (arith, all)) few most d plain wide)
+
+  pub led_fits : (e : ℕ → Look) (s : Size) (xss : List (List Cell)) (g : Grid) → IsFull s g.rows
+      → IsOn s g.cursor → s.rows ≤ 65536 → s.columns ≤ 65536 → AllDrawn g.rows
+      → AllLookPlain f g.rows
+      → AllFit (soft_reset ∷ (rows_changes e f xss g.rows 0 s.rows ++ cursor_pieces f s g))
+  led_fits e s xss g full on few most d plain =
+      let all : 0 + s.rows ≤ length g.rows = omega (arith, full.height) in
+      let most_rows : length g.rows ≤ 65536 = omega (arith, full.height, few) in (
+        tt,
+        fit_two (rows_changes e f xss g.rows 0 s.rows) (cursor_pieces f s g)
+            (changes_fit e s xss g.rows 0 s.rows all most_rows most d plain full.width)
+            (cursor_fits (is_waiting s g) s g full on few most d plain),
       )

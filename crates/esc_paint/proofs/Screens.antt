@@ -106,7 +106,7 @@ module _ (number : Look → ℕ) (same : (a b : Look) → same_look a b ≡ true
   abbrev after : Pen → List Cell → Pen
   after = pen_after number same f s
 
-  here_after : (xs : List Cell) (w : Bool) (p : Pen) → GoOn w xs → (w ≡ true → p.here ≡ true)
+  pub here_after : (xs : List Cell) (w : Bool) (p : Pen) → GoOn w xs → (w ≡ true → p.here ≡ true)
       → ends_drawn xs ≡ true → (after p xs).here ≡ true
   here_after [] w p go h e = absurd (true≢false (sym e))
   here_after (x ∷ []) w p go h e = last_here x.content (f x.look) w p go.0 h e
@@ -200,7 +200,7 @@ module _ (number : Look → ℕ) (same : (a b : Look) → same_look a b ≡ true
     pub column : z.cursor.column ≡ n
     pub pending : z.cursor.pending ≡ b
 
-  placed_there : (r n : ℕ) (rows : List (List Cell)) (g : Grid) → r < s.rows → n < s.columns
+  pub placed_there : (r n : ℕ) (rows : List (List Cell)) (g : Grid) → r < s.rows → n < s.columns
       → Draws e0 e0 g → g.rows ≡ rows
       → Ends rows r n false (go g (place r n ∷ []))
   placed_there r n rows g below before draws is =
@@ -228,16 +228,15 @@ module _ (number : Look → ℕ) (same : (a b : Look) → same_look a b ≡ true
   length_painted [] p = refl
   length_painted (x ∷ xs) p = ap suc (length_painted xs (pen_by p (f x.look) x.content))
 
-  -- a row that is painted again
-  again : (above below : List (List Cell)) (xs : List Cell) (g : Grid)
+  -- a row that is painted again, whatever is there
+  pub again : (above below : List (List Cell)) (ys xs : List Cell) (g : Grid)
       → IsWhole xs → AreDrawn xs → length xs ≡ s.columns → 0 < s.columns
-      → length above < s.rows → Draws e0 e0 g → g.rows ≡ above ++ painted_row xs ∷ below
+      → length above < s.rows → Draws e0 e0 g → g.rows ≡ above ++ ys ∷ below
+      → length ys ≡ length xs → begins_free ys ≡ true
       → Has s above below e0 e0 (after first_pen xs).here (length xs) (painted_row xs)
       (go g (row_again f (length above) xs))
-  again above below xs g whole drawn wide some less draws rows =
+  again above below ys xs g whole drawn wide some less draws rows many free =
       let r = length above in
-      let ys = painted_row xs in
-      let many = length_painted xs first_pen in
       let none : 0 + length ys ≡ s.columns = omega (arith, many, wide) in
       let there : Has s above below e0 e0 false 0 ys g = record {
         within = less;
@@ -247,7 +246,7 @@ module _ (number : Look → ℕ) (same : (a b : Look) → same_look a b ≡ true
       } in
       let at = has_at s above below e0 e0 false 0 0 ys g there some in
       let h = grid_by s g (step.Move (motion.Position r 0)) in
-      let gone = has_erased s above below e0 e0 [] ys h at some none (begins xs whole) in
+      let gone = has_erased s above below e0 e0 [] ys h at some none free in
       let z = grid_by s h (step.Edit change.EraseRight) in
       let blanked : Has s above below e0 e0 false 0 (replicate (length xs) (blank e0)) z = record {
         within = gone.within;
@@ -258,31 +257,31 @@ module _ (number : Look → ℕ) (same : (a b : Look) → same_look a b ≡ true
       row_painted above below xs z false whole drawn wide blanked refl
 
   -- the rows before one, it, and those after it
-  rows_at : (xss : List (List Cell)) (i : ℕ) → i < length xss
+  pub rows_at : (xss : List (List Cell)) (i : ℕ) → i < length xss
       → xss ≡ take i xss ++ get_or xss i [] ∷ drop (i + 1) xss
   rows_at xss i less = sym (take-append-drop i xss)
       ∙ ap (λ z. take i xss ++ z) (drop_more xss i [] less)
 
   -- a fact about each row is one about one row
-  one_whole : (xss : List (List Cell)) (i : ℕ) → i < length xss → AreWhole xss
+  pub one_whole : (xss : List (List Cell)) (i : ℕ) → i < length xss → AreWhole xss
       → IsWhole (get_or xss i [])
   one_whole [] i less h = absurd (omega (arith, less))
   one_whole (xs ∷ xss) zero less h = h.0
   one_whole (xs ∷ xss) (suc i) less h = one_whole xss i (omega (arith, less)) h.1
 
-  one_drawn : (xss : List (List Cell)) (i : ℕ) → i < length xss → AllDrawn xss
+  pub one_drawn : (xss : List (List Cell)) (i : ℕ) → i < length xss → AllDrawn xss
       → AreDrawn (get_or xss i [])
   one_drawn [] i less h = absurd (omega (arith, less))
   one_drawn (xs ∷ xss) zero less h = h.0
   one_drawn (xs ∷ xss) (suc i) less h = one_drawn xss i (omega (arith, less)) h.1
 
-  one_wide : (xss : List (List Cell)) (i n : ℕ) → i < length xss → AreWide n xss
+  pub one_wide : (xss : List (List Cell)) (i n : ℕ) → i < length xss → AreWide n xss
       → length (get_or xss i []) ≡ n
   one_wide [] i n less h = absurd (omega (arith, less))
   one_wide (xs ∷ xss) zero n less h = h.0
   one_wide (xs ∷ xss) (suc i) n less h = one_wide xss i n (omega (arith, less)) h.1
 
-  ends_row : (above below : List (List Cell)) (n : ℕ) (xs : List Cell) (z : Grid)
+  pub ends_row : (above below : List (List Cell)) (n : ℕ) (xs : List Cell) (z : Grid)
       (rows : List (List Cell)) → n ≡ s.columns → 0 < s.columns
       → rows ≡ above ++ xs ∷ below → Has s above below e0 e0 true n xs z
       → Ends rows (length above) (s.columns - 1) true z
@@ -297,7 +296,7 @@ module _ (number : Look → ℕ) (same : (a b : Look) → same_look a b ≡ true
         pending = k.pending ∙ ap not test;
       }
 
-  waits : (a b c : Bool) → a && b && c ≡ true → (b ≡ true) × (c ≡ true)
+  pub waits : (a b c : Bool) → a && b && c ≡ true → (b ≡ true) × (c ≡ true)
   waits true true true h = (refl, refl)
   waits true true false h = (refl, h)
   waits true false c h = absurd (true≢false (sym h))
@@ -329,8 +328,9 @@ module _ (number : Look → ℕ) (same : (a b : Look) → same_look a b ≡ true
       let test : (q.cursor.column + 1 == s.columns) ≡ true = w.0 in
       let last : q.cursor.column + 1 ≡ s.columns = grind (arith, nat_tests) in
       let column : s.columns - 1 ≡ q.cursor.column = omega (arith, last) in
-      let done = again above below xs g (one_whole xss i less whole) (one_drawn xss i less drawn)
-      wide some inside draws (rows ∙ split) in
+      let w_xs = one_whole xss i less whole in
+      let done = again above below (painted_row xs) xs g w_xs (one_drawn xss i less drawn)
+      wide some inside draws (rows ∙ split) (length_painted xs first_pen) (begins xs w_xs) in
       let z = go g (row_again f (length above) xs) in
       let here : (after first_pen xs).here ≡ true =
       here_after xs false first_pen (one_whole xss i less whole) (λ t. absurd (true≢false (sym t)))

@@ -29,10 +29,10 @@ use Rattle.esc_paint.proofs.Texts.{all_values, texts_mean}
 -- ---- looks that are all plain
 
 -- they have one number
-abbrev number : Look → ℕ
+abbrev pub number : Look → ℕ
 number l = 0
 
-same : (a b : Look) → same_look a b ≡ true
+pub same : (a b : Look) → same_look a b ≡ true
     → (number a ≡ number b) × (number (erased_look a) ≡ number (erased_look b))
 same a b h = (refl, refl)
 

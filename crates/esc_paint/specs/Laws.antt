@@ -1,15 +1,16 @@
 -- The facts about a screen that is painted.
-use Rattle.std.specs.Prelude.{ℕ, ◌≡◌, ◌≤◌, ◌++◌, List, [], ◌∷◌, map}
+use Rattle.std.specs.Prelude.{ℕ, ◌≡◌, ◌+◌, ◌*◌, ◌≤◌, ◌++◌, List, [], ◌∷◌, length, map}
 use Rattle.esc_frame.specs.Stream.{IsAtGround}
 use Rattle.esc_style.specs.Looks.{plain_look}
 use Rattle.esc_style.specs.declared.look.Look.{Look}
 use Rattle.esc_screen.specs.Grids.{Grid, Size}
-use Rattle.esc_screen.specs.Halves.{AreWhole}
+use Rattle.esc_screen.specs.Halves.{AreWhole, HasWholeRows}
 use Rattle.esc_screen.specs.Sound.{IsSound}
 use Rattle.esc_screen.specs.declared.cell.Cell.{Cell}
 use Rattle.esc_screen.specs.declared.content.Content.{Content}
 use Rattle.esc_terminal.specs.Streams.{Shown, shown_after, shown_of, values_of}
 use Rattle.esc_paint.specs.Drawn.{AllDrawn}
+use Rattle.esc_paint.specs.Differences.{difference, differences, last_grid}
 use Rattle.esc_paint.specs.Painting.{is_waiting, painted}
 
 -- the contents of the cells of rows
@@ -59,3 +60,38 @@ abbrev pub PaintsOver : Type 0 → Type 0
 PaintsOver A = (f : ℕ → Look) (s : Size) (b : List ℕ) (g : Grid) → IsAtGround b
     → IsPaintable f s g
     → ShowsSame s g (shown_of A s (b ++ painted f s g)).grid
+
+-- ---- differences
+
+-- the text that leads from one grid to another of its size makes any terminal that shows the first
+-- one show the second
+abbrev pub Leads : Type 0 → Type 0
+Leads A = (f k : ℕ → Look) (s : Size) (t : Shown) (g h : Grid) → IsSound s t.grid
+    → AreWhole t.grid.rows → ShowsSame s g t.grid → IsPaintable k s h
+    → ShowsSame s h (shown_after s t (values_of A (difference f k s s g h))).grid
+
+-- so it follows a series of screens, and at last shows the last one
+abbrev pub ArePaintable : Size → List ((ℕ → Look) × Grid) → Type 0
+ArePaintable s [] = Unit {0}
+ArePaintable s (h ∷ hs) = IsPaintable h.0 s h.1 × ArePaintable s hs
+
+abbrev pub LeadsOn : Type 0 → Type 0
+LeadsOn A = (f : ℕ → Look) (s : Size) (t : Shown) (g : Grid) (hs : List ((ℕ → Look) × Grid))
+    → IsSound s t.grid → HasWholeRows t.grid → ShowsSame s g t.grid → ArePaintable s hs
+    → ShowsSame s (last_grid g hs) (shown_after s t (values_of A (differences f s g hs))).grid
+
+-- a terminal that was fed a stream with nothing unfinished is led so
+abbrev pub LeadsOver : Type 0 → Type 0
+LeadsOver A = (f k : ℕ → Look) (s : Size) (b : List ℕ) (g h : Grid) → IsAtGround b
+    → ShowsSame s g (shown_of A s b).grid → IsPaintable k s h
+    → ShowsSame s h (shown_of A s (b ++ difference f k s s g h)).grid
+
+-- no text leads from a grid to itself
+abbrev pub SaysNothing : Type 0
+SaysNothing = (f : ℕ → Look) (s : Size) (g : Grid) → difference f f s s g g ≡ []
+
+-- a difference, and so a painting, has at most 14 bytes for each of five pieces of a cell, two of a
+-- row, and as many for the row of the cursor
+abbrev pub IsBounded : Type 0
+IsBounded = (f k : ℕ → Look) (q s : Size) (g h : Grid) → IsPaintable k s h
+    → length (difference f k q s g h) ≤ 14 * ((s.rows + 1) * (5 * s.columns + 2) + 2)

@@ -1,4 +1,5 @@
 pub mod Pieces
 pub mod Painting
 pub mod Drawn
+pub mod Differences
 pub mod Laws

@@ -1,6 +1,6 @@
 //! Cells, and rows of them.
-ghost use Rattle.std.specs.Prelude.{◌≡◌, ◌++◌, ◌<◌, ◌^◌, OnErr, OnOk, string_bytes};
-ghost use Rattle.esc_paint.specs.Painting.{blank_pieces, content_pieces, drawn_pieces, pen_blank, pen_by, row_pieces};
+ghost use Rattle.std.specs.Prelude.{◌≡◌, ◌++◌, ◌<◌, ◌^◌, OnErr, OnOk, drop, string_bytes};
+ghost use Rattle.esc_paint.specs.Painting.{blank_pieces, cells_pieces, content_pieces, drawn_pieces, is_blank_content, pen_blank, pen_by, row_pieces};
 ghost use Rattle.esc_paint.specs.Pieces.{pieces_text};
 ghost use Rattle.esc_terminal.specs.Links.{known_look, known_of};
 ghost use Rattle.esc_terminal.specs.Looks.{erased_look};
@@ -16,8 +16,8 @@ use esc_terminal::Styles;
 use fallible_alloc::{push_char, push_str};
 use std::alloc::{AllocError, Allocator};
 
-// Returns the look of a blank cell, if characters look so: it has the background.
-fn erased_look(look: &Look) -> Look
+/// Returns the look of a blank cell, if characters look so: it has the background.
+pub(crate) fn erased_look(look: &Look) -> Look
     ensures { result ≡ erased_look look.now }
 {
     Look {
@@ -139,6 +139,16 @@ impl Pen {
     }
 }
 
+/// Returns whether nothing stands in a cell.
+pub(crate) fn is_blank(content: Content) -> bool
+    ensures { result ≡ is_blank_content content }
+{
+    match content {
+        Content::Blank => true,
+        Content::Narrow(..) | Content::Wide(..) | Content::Rest => false,
+    }
+}
+
 /// Appends the cells of a row that is blank.
 pub(crate) fn push_row<A: Allocator, B: Allocator>(
     text: &mut String<A>,
@@ -150,8 +160,24 @@ pub(crate) fn push_row<A: Allocator, B: Allocator>(
         ++ pieces_text (row_pieces (λ n. known_look n (known_of styles.now)) row cells.now)) }
     ensures refused { OnErr result (Refused A) }
 {
-    let mut pen = Pen::first();
-    for column in 0..cells.len() {
+    push_cells(text, Pen::first(), row, 0, cells, styles)
+}
+
+/// Appends the cells of a row from a column on; from there on the row has to be blank.
+pub(crate) fn push_cells<A: Allocator, B: Allocator>(
+    text: &mut String<A>,
+    mut pen: Pen,
+    row: u16,
+    first: usize,
+    cells: &[Cell],
+    styles: &Styles<B>,
+) -> Result<(), AllocError>
+    ensures ok { OnOk result (string_bytes text.new ≡ string_bytes text.old
+        ++ pieces_text (cells_pieces (λ n. known_look n (known_of styles.now)) row first pen
+        (drop first cells.now))) }
+    ensures refused { OnErr result (Refused A) }
+{
+    for column in first..cells.len() {
         let cell = cells[column];
         let look = styles.look_at(cell.look);
         push_content(text, &pen, row, column, &look, cell.content)?;

@@ -1,15 +1,15 @@
 //! The text that paints a screen.
 ghost use Rattle.std.specs.Prelude.{◌≡◌, ◌++◌, OnErr, OnOk, string_bytes};
-ghost use Rattle.esc_paint.specs.Painting.{cursor_pieces, ends_drawn, is_blank_content, is_waiting, painted, rows_pieces};
+ghost use Rattle.esc_paint.specs.Painting.{cursor_pieces, ends_drawn, is_waiting, painted, rows_pieces};
 ghost use Rattle.esc_screen.specs.Grids.{row_of_cursor};
 ghost use Rattle.esc_paint.specs.Pieces.{pieces_text};
 ghost use Rattle.esc_screen.specs.Screens.{grid_of, size_of};
 ghost use Rattle.esc_terminal.specs.Links.{known_look, known_of};
 ghost use Rattle.fallible_alloc.specs.Refusals.{Refused};
 
-use crate::cells::push_row;
+use crate::cells::{is_blank, push_row};
 use crate::sequences::push_place;
-use esc_screen::{Cell, Content, Screen};
+use esc_screen::{Cell, Screen};
 use esc_terminal::Styles;
 use fallible_alloc::push_str;
 use std::alloc::{AllocError, Allocator};
@@ -56,9 +56,9 @@ fn push_rows<A: Allocator, B: Allocator>(
     Ok(())
 }
 
-// Appends the text that brings the cursor to its place.
+/// Appends the text that brings the cursor to its place.
 #[tactic(auto, using(crate::proofs::Writing::cursor_again, crate::proofs::Writing::cursor_there))]
-fn push_cursor<A: Allocator, B: Allocator>(
+pub(crate) fn push_cursor<A: Allocator, B: Allocator>(
     text: &mut String<A>,
     screen: &Screen<B>,
     styles: &Styles<B>,
@@ -79,8 +79,8 @@ fn push_cursor<A: Allocator, B: Allocator>(
     }
 }
 
-// Returns whether a wrap is pending after a character in the last column.
-fn is_waiting<B: Allocator>(screen: &Screen<B>, cells: &[Cell]) -> bool
+/// Returns whether a wrap is pending after a character in the last column.
+pub(crate) fn is_waiting<B: Allocator>(screen: &Screen<B>, cells: &[Cell]) -> bool
     requires { cells.now ≡ row_of_cursor (grid_of screen.now) }
     ensures { result ≡ is_waiting (size_of screen.now) (grid_of screen.now) }
 {
@@ -95,14 +95,5 @@ fn ends_drawn(cells: &[Cell]) -> bool
     match cells.last() {
         Some(cell) => !is_blank(cell.content),
         None => false,
-    }
-}
-
-fn is_blank(content: Content) -> bool
-    ensures { result ≡ is_blank_content content }
-{
-    match content {
-        Content::Blank => true,
-        Content::Narrow(..) | Content::Wide(..) | Content::Rest => false,
     }
 }

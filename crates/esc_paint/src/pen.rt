@@ -1,5 +1,6 @@
 //! The state between two cells of a row.
 ghost use Rattle.std.specs.Prelude.{◌≡◌};
+ghost use Rattle.esc_paint.specs.Differences.{here_pen};
 ghost use Rattle.esc_paint.specs.Painting.{first_pen};
 
 use esc_style::Look;
@@ -22,6 +23,17 @@ impl Pen {
     {
         Pen {
             here: false,
+            look: Look::plain(),
+            back: Look::plain(),
+        }
+    }
+
+    /// Returns the pen at the next cell of a row that is blank from there on.
+    pub(crate) fn here() -> Pen
+        ensures { result ≡ here_pen }
+    {
+        Pen {
+            here: true,
             look: Look::plain(),
             back: Look::plain(),
         }

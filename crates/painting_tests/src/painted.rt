@@ -8,14 +8,14 @@ use esc_terminal::{Styles, Terminal};
 use std::alloc::{AllocError, Global};
 use std::test::Fail;
 
-const COLUMNS: u16 = 12;
+pub(crate) const COLUMNS: u16 = 12;
 
-const ROWS: u16 = 4;
+pub(crate) const ROWS: u16 = 4;
 
 // The state that another terminal was left with.
-const BEFORE: &[u8] = b"\x1b[2;3r\x1b[?6h\x1b[4h\x1b(0\x1b[41;1mold\x1b[?7l";
+pub(crate) const BEFORE: &[u8] = b"\x1b[2;3r\x1b[?6h\x1b[4h\x1b(0\x1b[41;1mold\x1b[?7l";
 
-fn fed(alloc: Global, chunks: &[&[u8]]) -> Result<Terminal, AllocError> {
+pub(crate) fn fed(alloc: Global, chunks: &[&[u8]]) -> Result<Terminal, AllocError> {
     let mut terminal = Terminal::new(alloc, COLUMNS, ROWS)?;
     for chunk in chunks {
         terminal.feed(chunk)?;
@@ -23,7 +23,7 @@ fn fed(alloc: Global, chunks: &[&[u8]]) -> Result<Terminal, AllocError> {
     Ok(terminal)
 }
 
-fn text_of(alloc: Global, terminal: &Terminal) -> Result<String, AllocError> {
+pub(crate) fn text_of(alloc: Global, terminal: &Terminal) -> Result<String, AllocError> {
     let mut text = String::new(alloc);
     match (terminal.screen(), terminal.styles()) {
         (Some(screen), Some(styles)) => push_painting(&mut text, screen, styles)?,
@@ -59,7 +59,7 @@ fn seen(styles: &Styles, cell: &Cell) -> Look {
 }
 
 // Returns whether two terminals show the same.
-fn shows_same(a: &Terminal, b: &Terminal) -> bool {
+pub(crate) fn shows_same(a: &Terminal, b: &Terminal) -> bool {
     let (Some(screen), Some(other)) = (a.screen(), b.screen()) else {
         return false;
     };

@@ -5,7 +5,7 @@ use Rattle.esc_terminal.specs.Links.{known_look, known_of}
 use Rattle.esc_paint.specs.Painting.{cells_pieces, content_pieces, pen_by}
 use Rattle.esc_paint.specs.Pieces.{pieces_text}
 use Rattle.esc_paint.proofs.Writing.{cell_more}
-use Rattle.esc_paint.proofs.cells.push_row.Goals as goal
+use Rattle.esc_paint.proofs.cells.push_cells.Goals as goal
 
 pub loop-column-preserved : goal.loop-column-preserved
 loop-column-preserved g c =
