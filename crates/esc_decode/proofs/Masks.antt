@@ -1,8 +1,9 @@
 -- Masked streams, byte by byte.
-use Rattle.std.proofs.Common.{ℕ, suc, ◌≡◌, ◌<◌, ◌⊎◌, inl, inr, Bool, true, false, if◌then◌else◌, List, [], ◌∷◌, ◌++◌, length, arith, refl, ap, ◌∙◌}
+use Rattle.std.proofs.Common.{ℕ, suc, ◌≡◌, ◌<◌, ◌⊎◌, inl, inr, Bool, true, false, if◌then◌else◌, List, [], ◌∷◌, ◌++◌, ◌+◌, ◌≤◌, length, drop, get_or, set, take, append_assoc, arith, refl, ap, sym, ◌∙◌}
 use Rattle.std.specs.List.{list_all}
 use Rattle.std.proofs.lemmas.Bool.Decides.{nat_tests}
 use Rattle.std.proofs.lemmas.Bool.{and_parts}
+use Rattle.std.proofs.lemmas.List.{append-nil, drop-set-lt, drop_all, drop_more, take_all, take_more_set}
 use Rattle.esc_frame.specs.Scans.{is_text_byte}
 use Rattle.esc_frame.specs.Sequences.{outcome}
 use Rattle.esc_frame.specs.declared.utf8.sequence.Outcome.{Outcome}
@@ -25,6 +26,32 @@ begun_append f (b ∷ x) y = begun_append (next_begun f b (outcome f b)) x y
 pub by_chunks : (s t : List ℕ) → masked_bytes (s ++ t) ≡ masked_bytes s
     ++ masked_after (begun_after [] s) t
 by_chunks s t = masked_append [] s t
+
+-- the byte at a place is masked, where these have begun before it, and those after it are left
+pub one_masked : (f g s t : List ℕ) (at b c : ℕ) → at < length s → b ≡ get_or s at b
+    → g ≡ next_begun f b (outcome f b) → c ≡ masked_byte b (outcome f b)
+    → take at s ++ masked_after f (drop at s) ≡ t
+    → take (at + 1) (set s at c) ++ masked_after g (drop (at + 1) (set s at c)) ≡ t
+one_masked f g s t at b c less is e k h =
+    let rest = drop (at + 1) s in
+    ap (λ x. x ++ masked_after g (drop (at + 1) (set s at c))) (take_more_set s at c less)
+    ∙ ap (λ y. (take at s ++ c ∷ []) ++ masked_after g y)
+    (drop-set-lt (at + 1) s at c (omega arith))
+    ∙ append_assoc (take at s) (c ∷ []) (masked_after g rest)
+    ∙ ap (λ z. take at s ++ z ∷ masked_after g rest) k
+    ∙ ap (λ z. take at s ++ masked_byte b (outcome f b) ∷ masked_after z rest) e
+    ∙ ap (λ z. take at s ++ masked_after f (z ∷ rest)) is
+    ∙ ap (λ y. take at s ++ masked_after f y) (sym (drop_more s at b less))
+    ∙ h
+
+-- each byte was
+pub all_masked : (g s t : List ℕ) (n : ℕ) → length s ≤ n
+    → take n s ++ masked_after g (drop n s) ≡ t → s ≡ t
+all_masked g s t n all h =
+    sym (take_all n s all)
+    ∙ sym (append-nil (take n s))
+    ∙ ap (λ y. take n s ++ masked_after g y) (sym (drop_all n s all))
+    ∙ h
 
 -- ---- each byte
 

@@ -4,6 +4,7 @@ ghost use Rattle.esc_frame.specs.Machine.Prefixes.{prefix_of};
 ghost use Rattle.esc_frame.specs.Sequences.{is_prefix, outcome};
 ghost use Rattle.esc_decode.specs.Masks.{HasConsumed, first_begun, lone, masked_bytes, masked_byte, next_begun};
 
+use crate::runs::mask_all;
 use esc_frame::utf8::sequence::{Outcome, Pending, lies_from};
 
 /// Replaces the controls of C1 in a stream of UTF-8 that are single bytes, byte after byte: each
@@ -34,6 +35,17 @@ impl Mask {
         let (begun, becomes) = step(self.begun, byte);
         self.begun = begun;
         becomes
+    }
+
+    /// Makes the next bytes those that they become. Of text in UTF-8 most are looked at many at
+    /// once.
+    pub fn take_all(&mut self, bytes: &mut [u8])
+        ensures fed { (s : List ℕ) → HasConsumed s self.old
+            → HasConsumed (s ++ bytes.old) self.new }
+        ensures masked { (s : List ℕ) → HasConsumed s self.old
+            → masked_bytes (s ++ bytes.old) ≡ masked_bytes s ++ bytes.new }
+    {
+        self.begun = mask_all(self.begun, bytes);
     }
 }
 

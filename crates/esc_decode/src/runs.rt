@@ -64,6 +64,32 @@ fn look_some(begun: Pending, bytes: &[u8], is_early: bool) -> (Pending, usize, b
     }
 }
 
+/// Makes bytes those that they become; returns the begun bytes after them.
+pub(crate) fn mask_all(begun: Pending, bytes: &mut [u8]) -> Pending
+    ensures begun { prefix_of result ≡ begun_after (prefix_of begun) bytes.old }
+    ensures masked { bytes.new ≡ masked_after (prefix_of begun) bytes.old }
+{
+    let (last, stays) = look(begun, bytes);
+    if stays {
+        return last;
+    }
+    mask_each(begun, bytes);
+    last
+}
+
+// The same, byte after byte.
+#[tactic(auto, using(crate::proofs::Masks::all_masked, crate::proofs::Masks::one_masked))]
+fn mask_each(begun: Pending, bytes: &mut [u8])
+    ensures { bytes.new ≡ masked_after (prefix_of begun) bytes.old }
+{
+    let mut last = begun;
+    for at in 0..bytes.len() {
+        let (next, becomes) = step(last, bytes[at]);
+        last = next;
+        bytes[at] = becomes;
+    }
+}
+
 /// Appends the bytes that these bytes become.
 pub(crate) fn push_masked<A: Allocator>(
     text: &mut Vec<u8, A>,

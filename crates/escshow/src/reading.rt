@@ -50,7 +50,7 @@ fn feed<R: Read>(
             break;
         }
         let bytes = &mut chunk[..count];
-        mask_all(&mut mask, bytes);
+        mask.take_all(bytes);
         display.feed(bytes)?;
     }
     Ok(())
@@ -71,13 +71,6 @@ fn play<R: Read, F: Frames>(
         recorded.take(&chunk[..count], frames)?;
     }
     recorded.end(frames)
-}
-
-// Replaces the bytes of a chunk that would be controls by themselves.
-fn mask_all(mask: &mut Mask, bytes: &mut [u8]) {
-    for byte in bytes {
-        *byte = mask.take(*byte);
-    }
 }
 
 // Reads some bytes, 0 at the end.

@@ -31,7 +31,7 @@ spaces_more o n =
     sym (from_more o (replicate n (Character 0x20)) (Character 0x20 ∷ []))
     ∙ ap (out_from o) (replicate_more n (Character 0x20))
 
-few_blanks : (k : Known) (w : Going) (x : Cell) → (going_by k w x).blanks ≤ w.blanks + 1
+pub few_blanks : (k : Known) (w : Going) (x : Cell) → (going_by k w x).blanks ≤ w.blanks + 1
 few_blanks k w x = by (is_hidden k x) (is_rest x)
   where
     by : (s t : Bool) → (if s then record w { blanks = w.blanks + 1 }
@@ -49,7 +49,7 @@ module _ (k : Known) (o p q : Out) (w v : Going) (i : ℕ) (xs : List Cell) (d :
   abbrev pub rest : List Cell
   rest = drop (i + 1) xs
 
-  cells_more : i < length xs → q ≡ out_from o (cell_pieces k w next) → v ≡ going_by k w next
+  pub cells_more : i < length xs → q ≡ out_from o (cell_pieces k w next) → v ≡ going_by k w next
       → out_from q (cells_pieces k v rest) ≡ out_from o (cells_pieces k w (drop i xs))
   cells_more less e f =
       ap (λ z. out_from z (cells_pieces k v rest)) e

@@ -1,4 +1,5 @@
 pub mod Growing
 mod Looks
+pub mod Runs
 pub mod Tokens
 pub mod Bare

@@ -1,7 +1,7 @@
 //! Rows that are written.
-ghost use Rattle.std.specs.Prelude.{◌≡◌, ◌<◌, ◌^◌, IfOk, OnErr, OnOk, Some, replicate};
+ghost use Rattle.std.specs.Prelude.{◌≡◌, ◌+◌, ◌<◌, ◌≤◌, ◌^◌, IfOk, OnErr, OnOk, Some, drop, length, replicate};
 ghost use Rattle.esc_screen.specs.Used.{IsUnusedFrom};
-ghost use Rattle.esc_terminal.specs.Links.{known_of};
+ghost use Rattle.esc_terminal.specs.Links.{Known, known_of};
 ghost use Rattle.fallible_alloc.specs.Refusals.{Refused};
 ghost use Rattle.screen_lines.specs.Written.{WritesRow, out_of};
 ghost use Rattle.screen_lines.specs.Pieces.{out_from};
@@ -11,6 +11,7 @@ ghost use Rattle.screen_lines.specs.Rows.{blanks_held, blanks_pieces, cell_piece
 use crate::going::Going;
 use crate::hidden::{is_hidden, written};
 use crate::lines::Lines;
+use crate::run::Run;
 use esc_screen::{Cell, Content, Marks, is_joined};
 use esc_style::Look;
 use esc_terminal::{Rows, Styles};
@@ -284,10 +285,53 @@ impl<A: Allocator> Lines<A> {
             held: None,
             blanks: 0,
         };
-        for at in 0..cells.len() {
-            going = self.push_cell(styles, going, cells[at])?;
+        let mut at = 0;
+        while at < cells.len() {
+            let (next, count) = self.push_some(styles, going, &cells[at..])?;
+            going = next;
+            at += count;
         }
         self.push_plain(styles, going.held)
+    }
+
+    // Adds a cell and those of a run after it; returns the place after them, and how many they are.
+    #[inline]
+    fn push_some<B: Allocator + Copy>(
+        &mut self,
+        styles: &Styles<B>,
+        going: Going,
+        cells: &[Cell],
+    ) -> Result<(Going, usize), AllocError>
+        requires { (0 < length cells.now) × (going.blanks < 2 ^ 63) }
+        ensures count { IfOk result (λ r. (0 < r.1) × (r.1 ≤ length cells.now)
+            × (r.0.blanks ≤ going.blanks + 1)) }
+        ensures ok { IfOk result (λ r. out_from (out_of self.new)
+            (cells_pieces (known_of styles.now) r.0 (drop r.1 cells.now))
+            ≡ out_from (out_of self.old) (cells_pieces (known_of styles.now) going cells.now)) }
+        ensures refused { OnErr result (Refused A) }
+    {
+        let next = self.push_cell(styles, going, cells[0])?;
+        let count = self.push_run(next, &cells[1..])?;
+        Ok((next, count + 1))
+    }
+
+    // Adds the characters of the cells that come first and go on the run before them; returns how
+    // many they are.
+    #[inline]
+    #[tactic(auto, using(crate::proofs::Runs::run_added, crate::proofs::Runs::begin_plain, crate::proofs::Runs::begin_few))]
+    fn push_run(&mut self, going: Going, cells: &[Cell]) -> Result<usize, AllocError>
+        ensures count { IfOk result (λ n. n ≤ length cells.now) }
+        ensures ok { IfOk result (λ n. (k : Known)
+            → out_from (out_of self.new) (cells_pieces k going (drop n cells.now))
+            ≡ out_from (out_of self.old) (cells_pieces k going cells.now)) }
+        ensures refused { OnErr result (Refused A) }
+    {
+        let Some(look) = going.look() else {
+            return Ok(0);
+        };
+        let run = Run::of(look, cells);
+        self.push_plain_text(run.as_str())?;
+        Ok(run.len())
     }
 
     // Ends the line before a row, if it has no end.

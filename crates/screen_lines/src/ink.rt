@@ -1,6 +1,7 @@
 //! The state of a text for the characters, renditions and links after it.
 ghost use Rattle.std.specs.Prelude.{◌≡◌, None, Some, false, true};
 ghost use Rattle.screen_lines.specs.Pieces.{first_ink, more_room};
+ghost use Rattle.screen_lines.specs.Runs.{ink_after};
 
 /// The state of a text for what is written after it.
 #[derive(Clone, Copy)]
@@ -40,6 +41,35 @@ impl Ink {
             leads: self.leads,
             room,
         }
+    }
+
+    /// After characters of ASCII more.
+    #[tactic(auto, using(crate::proofs::Runs::ink_all))]
+    #[inline]
+    pub fn after_all(self, bytes: &[u8]) -> Ink
+        ensures { result ≡ ink_after self bytes.now }
+    {
+        let room = self.room.saturating_add(MORE_ROOM * bytes.len() as u128);
+        if room <= MOST_ROOM && !bytes.is_empty() {
+            Ink {
+                last: Some(bytes[bytes.len() - 1] as char),
+                leads: self.leads,
+                room,
+            }
+        } else {
+            self.after_each(bytes)
+        }
+    }
+
+    // The same, one after another.
+    fn after_each(self, bytes: &[u8]) -> Ink
+        ensures { result ≡ ink_after self bytes.now }
+    {
+        let mut ink = self;
+        for byte in bytes {
+            ink = ink.after(*byte as char);
+        }
+        ink
     }
 
     /// At the beginning of a link that leaves so much room.

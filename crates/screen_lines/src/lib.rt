@@ -17,6 +17,7 @@ mod ink;
 pub mod laws;
 mod leads;
 pub mod lines;
+mod run;
 mod spelling;
 pub mod state;
 

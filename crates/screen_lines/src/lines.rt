@@ -1,11 +1,13 @@
 //! Text that is made of rows.
-ghost use Rattle.std.specs.Prelude.{◌≡◌, None, OnErr, OnOk, Some};
+ghost use Rattle.std.specs.Prelude.{◌≡◌, None, OnErr, OnOk, Some, map, true};
+ghost use Rattle.std.specs.List.{list_all};
 ghost use Rattle.std.specs.Option.{option_map};
 ghost use Rattle.esc_terminal.specs.Links.{target};
 ghost use Rattle.fallible_alloc.specs.Refusals.{Refused};
 ghost use Rattle.screen_lines.specs.Written.{out_of, text_of};
-ghost use Rattle.screen_lines.specs.Pieces.{emptied_out, first_out, out_by};
+ghost use Rattle.screen_lines.specs.Pieces.{emptied_out, first_out, out_by, out_from};
 ghost use Rattle.screen_lines.specs.Pieces.Piece.{Change, Character, Lead, LineEnd};
+ghost use Rattle.screen_lines.specs.Runs.{is_plain_char};
 
 use crate::ink::Ink;
 use crate::leads::{append_lead, id_of, room_after};
@@ -97,6 +99,19 @@ impl<A: Allocator> Lines<A> {
             }
             Spelling::Absent => Ok(()),
         }
+    }
+
+    // Adds characters from U+0020 to U+007E.
+    #[tactic(auto, using(crate::proofs::Runs::text_added))]
+    #[inline]
+    pub(crate) fn push_plain_text(&mut self, text: &str) -> Result<(), AllocError>
+        requires { list_all is_plain_char text.now ≡ true }
+        ensures ok { OnOk result (out_of self.new
+            ≡ out_from (out_of self.old) (map Character text.now)) }
+        ensures refused { OnErr result (Refused A) }
+    {
+        self.ink = self.ink.after_all(text.as_bytes());
+        push_str(&mut self.text, text)
     }
 
     // Ends the line.
