@@ -7,7 +7,7 @@ ghost use Rattle.esc_frame.specs.Machine.Moves.{ground_move};
 ghost use Rattle.heapless_parser.specs.Asked.{AskedToLeave};
 ghost use Rattle.heapless_parser.specs.Emitted.{queued_of};
 ghost use Rattle.heapless_parser.specs.Noted.{IsSound};
-ghost use Rattle.heapless_parser.specs.Takes.{GivesByte, IsInRoom, KeepsAfter, Leaves, NotesText};
+ghost use Rattle.heapless_parser.specs.Takes.{GivesByte, IsInRoom, KeepsAfter, Leaves, NotesSequence};
 
 use crate::breaks::in_ground;
 use crate::event::{APC, DCS_END, EscEvent, NONE, OSC};
@@ -37,6 +37,15 @@ pub fn queue_in_ground(parser: &mut EscParser, byte: u8)
     parser.queued_value = single.value;
 }
 
+// Returns the kind of the event for the text of a command, in this state.
+#[inline(always)]
+fn text_kind(state: u32) -> u32
+    ensures osc { state ≡ OSC_STATE → result ≡ OSC }
+    ensures apc { state ≡ APC_STATE → result ≡ APC }
+{
+    if state == OSC_STATE { OSC } else { APC }
+}
+
 // Ends a command and hands out its text. If that is past the limit, returns false and changes
 // nothing.
 #[inline(always)]
@@ -46,19 +55,18 @@ fn leave_text(
     out: &mut [u8],
     byte: u8,
     event: &mut EscEvent,
-    kind: u32,
 ) -> bool
-    requires state { ((parser.old.state ≡ OSC_STATE) × (parser.old.pending ≡ 0) × (kind ≡ OSC))
-        ⊎ ((parser.old.state ≡ APC_STATE) × (kind ≡ APC)) }
-    requires breaks { is_breaker (class_of byte) ≡ true }
+    requires state { ((parser.old.state ≡ OSC_STATE) × (parser.old.pending ≡ 0))
+        ⊎ (parser.old.state ≡ APC_STATE) }
+    requires asked { AskedToLeave byte event.old (IsInRoom event.old (length out.old)) }
     ensures takes { Leaves parser memory.now out event byte result }
-    ensures noted { NotesText kind (length out.old) event (result ≡ true) }
+    ensures noted { NotesSequence event.new (length out.old) (result ≡ true) }
 {
     let count = parser.text;
     if parser.is_over || count > memory.len() || count > out.len() {
         return false;
     }
-    put_text(out, event, kind, &memory[..count]);
+    put_text(out, event, text_kind(parser.state), &memory[..count]);
     queue_in_ground(parser, byte);
     true
 }
@@ -90,10 +98,8 @@ pub fn end_string(
     ensures some { result ≡ true → event.new.kind ≢ NONE }
     ensures sound { IsSound event.new (length out.old) }
 {
-    if parser.state == OSC_STATE && parser.pending == 0 {
-        leave_text(parser, memory, out, byte, event, OSC)
-    } else if parser.state == APC_STATE {
-        leave_text(parser, memory, out, byte, event, APC)
+    if parser.state == APC_STATE || parser.state == OSC_STATE && parser.pending == 0 {
+        leave_text(parser, memory, out, byte, event)
     } else if parser.state == DATA_STATE {
         leave_data(parser, byte, event);
         true

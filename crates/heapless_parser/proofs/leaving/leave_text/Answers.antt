@@ -18,9 +18,11 @@ returns-clause-takes c = record {
       let off = c.if-parser.false in
       let text = c.put_text.ensures.text in
       let kind = c.put_text.ensures.kind in
+      let breaks = c.requires.asked.breaks in
       elim c.requires.state [
-        | inl s ↦ osc_left p q e m out b c.requires.breaks keeps queued off text s.0 s.1
-            (kind ∙ s.2)
-        | inr s ↦ apc_left p q e m out b c.requires.breaks keeps queued off text s.0 (kind ∙ s.1)
+        | inl s ↦ osc_left p q e m out b breaks keeps queued off text s.0 s.1
+            (kind ∙ c.text_kind.ensures.osc s.0)
+        | inr s ↦ apc_left p q e m out b breaks keeps queued off text s
+            (kind ∙ c.text_kind.ensures.apc s)
       ];
 }
