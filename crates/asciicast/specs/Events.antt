@@ -49,8 +49,8 @@ told_from (Some b) l =
     else if b == 0x5b then told_event (tokens l)
     else unread
 
-abbrev pub told : List ℕ → Told
-told l = told_from (first_byte l) l
+abbrev pub line_report : List ℕ → Told
+line_report l = told_from (first_byte l) l
 
 -- the event that was seen is this
 abbrev pub told_by : Event → Told

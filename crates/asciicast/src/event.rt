@@ -3,7 +3,7 @@ ghost use Rattle.std.specs.Prelude.{◌≡◌, IfOk, Some};
 ghost use Rattle.json.specs.Json.{document};
 ghost use Rattle.json.specs.Value.{value_view};
 ghost use Rattle.json.specs.Lex.{tokens};
-ghost use Rattle.asciicast.specs.Events.{told, told_at, told_by, told_event, told_header};
+ghost use Rattle.asciicast.specs.Events.{line_report, told_at, told_by, told_event, told_header};
 
 use crate::line::first_of;
 use json::{Error, Reader, Scratch, Token, Value};
@@ -32,7 +32,7 @@ pub fn event_in<'a, A: Allocator + Copy>(
     line: &'a str,
     scratch: &'a mut Scratch<A>,
 ) -> Result<Event<'a>, AllocError>
-    ensures { IfOk result (λ e. told_by e ≡ told line.now) }
+    ensures { IfOk result (λ e. told_by e ≡ line_report line.now) }
 {
     match first_of(line) {
         None | Some(b'#') => Ok(Event::Nothing),

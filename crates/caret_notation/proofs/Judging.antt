@@ -27,7 +27,7 @@ use Rattle.esc_sequences.specs.Csis.{CsiValue, csi_of, is_separator, put_first, 
 use Rattle.esc_sequences.specs.declared.csi.CSI.TheVariants as csi_variant
 use Rattle.esc_sequences.specs.declared.sgr.Sgr.{Sgr}
 use Rattle.esc_values.specs.declared.csi_param.CsiParam.{CsiParam}
-use Rattle.caret_notation.specs.Judged.{HasJudged, begun, folded_verdict, judged}
+use Rattle.caret_notation.specs.Judged.{HasJudged, begun, folded_verdict, verdict_with}
 use Rattle.caret_notation.specs.Revealed.{all_through, are_kept, goes_through, is_some}
 use Rattle.caret_notation.specs.declared.judge.Judge.{Judge}
 use Rattle.caret_notation.specs.declared.judge.Verdict.{Verdict}
@@ -37,7 +37,7 @@ use Rattle.caret_notation.specs.declared.judge.Verdict.{Verdict}
 folded_append : {A : Type 0} (admits : Value A → Bool) (k : Verdict) (vs ws : List (Value A))
     → folded_verdict admits k (vs ++ ws) ≡ folded_verdict admits (folded_verdict admits k vs) ws
 folded_append admits k [] ws = refl
-folded_append admits k (v ∷ vs) ws = folded_append admits (judged admits k v) vs ws
+folded_append admits k (v ∷ vs) ws = folded_append admits (verdict_with admits k v) vs ws
 
 folded_all : {A : Type 0} (admits : Value A → Bool) (k : Verdict) (vs : List (Value A))
     → (folded_verdict admits k vs).all ≡ (k.all && all_through admits k.follows vs)
@@ -47,7 +47,7 @@ folded_all admits k [] = by_all k.all
     by_all true = refl
     by_all false = refl
 folded_all admits k (v ∷ vs) =
-    folded_all admits (judged admits k v) vs
+    folded_all admits (verdict_with admits k v) vs
     ∙ assoc k.all (goes_through admits k.follows v) (all_through admits (is_string v) vs)
   where
     assoc : (a b c : Bool) → ((a && b) && c) ≡ (a && (b && c))
@@ -57,12 +57,12 @@ folded_all admits k (v ∷ vs) =
 folded_true : {A : Type 0} (admits : Value A → Bool) (k : Verdict) (vs : List (Value A))
     → k.some ≡ true → (folded_verdict admits k vs).some ≡ true
 folded_true admits k [] h = h
-folded_true admits k (v ∷ vs) h = folded_true admits (judged admits k v) vs refl
+folded_true admits k (v ∷ vs) h = folded_true admits (verdict_with admits k v) vs refl
 
 folded_some : {A : Type 0} (admits : Value A → Bool) (k : Verdict) (vs : List (Value A))
     → k.some ≡ false → (folded_verdict admits k vs).some ≡ is_some vs
 folded_some admits k [] h = h
-folded_some admits k (v ∷ vs) h = folded_true admits (judged admits k v) vs refl
+folded_some admits k (v ∷ vs) h = folded_true admits (verdict_with admits k v) vs refl
 
 -- the verdict of a judge that was asked about nothing before
 pub finds : {A : Type 0} (admits : Value A → Bool) (k : Verdict) (vs : List (Value A))
@@ -77,7 +77,7 @@ finds admits k vs h =
 
 module _ {P A : Type 0} (admits_by : P → Value A → Bool) where
   abbrev pub Asks : Judge P → Action A → Judge P → Type 0
-  Asks p a q = (q.verdict ≡ judged (admits_by p.policy.now) p.verdict (value_of a))
+  Asks p a q = (q.verdict ≡ verdict_with (admits_by p.policy.now) p.verdict (value_of a))
       × (q.policy.now ≡ p.policy.now)
 
   pub asks_all : (p : Judge P) (vs : List (Value A)) (q : Judge P)
@@ -90,7 +90,7 @@ module _ {P A : Type 0} (admits_by : P → Value A → Bool) where
         k.0
             ∙ ap (λ y. folded_verdict (admits_by y) mid.verdict vs) same
             ∙ ap (λ k. folded_verdict (admits_by p.policy.now) k vs)
-            (e ∙ ap (judged (admits_by p.policy.now) p.verdict) is),
+            (e ∙ ap (verdict_with (admits_by p.policy.now) p.verdict) is),
         k.1 ∙ same,
       )
 
@@ -251,7 +251,7 @@ module _ {A : Type 0} (admits : Value A → Bool) where
 
   pub command_found : (b : Bool) (k : Verdict) (ps : List (List ℕ))
       → admits (osc (command_meant ps)) ≡ b
-      → judged admits k (osc (command_meant ps))
+      → verdict_with admits k (osc (command_meant ps))
       ≡ record { some = true; all = k.all && b; follows = true }
   command_found b k ps h =
       ap (λ g. record { some = true; all = k.all && g; follows = true }) h
@@ -289,12 +289,12 @@ module _ {P A : Type 0} (admits_by : P → Value A → Bool) where
   asks_each p [] = refl
   asks_each p (c ∷ cs) =
       let a = sequence_action {A = A} c in
-      let mid = record p { verdict = judged (admits_by p.policy.now) p.verdict (csi c) } in (
+      let mid = record p { verdict = verdict_with (admits_by p.policy.now) p.verdict (csi c) } in (
         mid,
         (
           a.0,
           a.1,
-          (ap (judged (admits_by p.policy.now) p.verdict) (sym a.1), refl),
+          (ap (verdict_with (admits_by p.policy.now) p.verdict) (sym a.1), refl),
         ),
         asks_each mid cs,
       )

@@ -18,8 +18,8 @@ abbrev pub begun : Verdict
 begun = record { some = false; all = true; follows = false }
 
 -- the state after one more
-abbrev pub judged : {A : Type 0} → (Value A → Bool) → Verdict → Value A → Verdict
-judged admits k v = record {
+abbrev pub verdict_with : {A : Type 0} → (Value A → Bool) → Verdict → Value A → Verdict
+verdict_with admits k v = record {
   some = true;
   all = k.all && goes_through admits k.follows v;
   follows = is_string v;
@@ -37,7 +37,7 @@ noted_verdict passes is_string k = record {
 -- and after these, one after another
 abbrev pub folded_verdict : {A : Type 0} → (Value A → Bool) → Verdict → List (Value A) → Verdict
 folded_verdict admits k [] = k
-folded_verdict admits k (v ∷ vs) = folded_verdict admits (judged admits k v) vs
+folded_verdict admits k (v ∷ vs) = folded_verdict admits (verdict_with admits k v) vs
 
 -- Both were fed this stream, which begins when the judge had no action: it knows the meaning of the
 -- stream.

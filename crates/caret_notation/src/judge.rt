@@ -3,7 +3,7 @@ ghost use Rattle.std.specs.Prelude.{◌≡◌, ◌&&◌, ◌++◌, ◌<◌, ◌�
 ghost use Rattle.esc_actions.specs.Values.{plain, value_of};
 ghost use Rattle.esc_frame.specs.Stream.{IsQuietWithin, HasConsumedWithin};
 ghost use Rattle.esc_parse.specs.Fed.{Hooks};
-ghost use Rattle.caret_notation.specs.Judged.{HasJudged, HasJudgedSome, begun, judged, noted_verdict};
+ghost use Rattle.caret_notation.specs.Judged.{HasJudged, HasJudgedSome, begun, verdict_with, noted_verdict};
 ghost use Rattle.caret_notation.specs.Revealed.{are_kept};
 ghost use Rattle.esc_normal.specs.Normalising.{normal_form};
 ghost use Rattle.caret_notation.specs.Spelled.{is_spelled};
@@ -78,7 +78,7 @@ impl<'p, P: Admit<A>, A: Allocator> Sink<Action<A>> for Judge<'p, P> {
     ghost may = { λ _ _. Unit {0} };
 
     ghost takes = { λ p a q. (q.verdict
-        ≡ judged (P.admits p.policy.now) p.verdict (value_of a))
+        ≡ verdict_with (P.admits p.policy.now) p.verdict (value_of a))
         × (q.policy.now ≡ p.policy.now) };
 
     ghost refuses = { λ _ _ _. ⊥ };

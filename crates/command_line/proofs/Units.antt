@@ -9,7 +9,7 @@ use Rattle.std.specs.Str.Pattern.{FindsTextSuffix, StripsSuffix}
 use Rattle.std.proofs.lemmas.Bool.{and_parts, cases_Bool}
 use Rattle.std.proofs.lemmas.Bool.Decides.{nat_tests}
 use Rattle.std.proofs.lemmas.Str.Pattern.{ends_text}
-use Rattle.command_line.specs.Sizes.{cut, is_numeral, is_size, number_in, size_value, units, with_factor, without_unit}
+use Rattle.command_line.specs.Sizes.{text_before_unit, is_numeral, is_size, number_in, size_value, units, with_factor, without_unit}
 
 -- the rest of a text before another, if it ends with it
 pub cut_is : (n s : List ℕ) (r : Option (Bor (List ℕ)))
@@ -83,7 +83,7 @@ factors_are_some : (us : List (List ℕ × ℕ)) (t : List ℕ) → list_all (λ
 factors_are_some [] t h = omega arith
 factors_are_some (u ∷ us) t h =
     let k = and_parts (nat_lt 0 u.1) (list_all (λ u. nat_lt 0 u.1) us) h in
-    factor_is_some (cut u.0 t) u.1 (without_unit us t) (grind (arith, nat_tests, k.0))
+    factor_is_some (text_before_unit u.0 t) u.1 (without_unit us t) (grind (arith, nat_tests, k.0))
     (factors_are_some us t k.1)
 
 pub unsized : (t n : List ℕ) (f : ℕ) → (n, f) ≡ without_unit units t

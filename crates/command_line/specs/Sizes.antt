@@ -11,8 +11,8 @@ units =
     ∷ (codes "K", 0x400) ∷ (codes "M", 0x100000) ∷ (codes "G", 0x40000000) ∷ []
 
 -- the text before this unit, if a text ends with it
-abbrev pub cut : List ℕ → List ℕ → Option (List ℕ)
-cut u t = if ends_with nat_eq t u then Some (take (length t - length u) t) else None
+abbrev pub text_before_unit : List ℕ → List ℕ → Option (List ℕ)
+text_before_unit u t = if ends_with nat_eq t u then Some (take (length t - length u) t) else None
 
 -- that with the unit's factor, or else the result so far
 abbrev pub with_factor : Option (List ℕ) → ℕ → List ℕ × ℕ → List ℕ × ℕ
@@ -22,7 +22,7 @@ with_factor (Some t) f next = (t, f)
 -- a text without the first of these units that it ends with, and the unit's factor
 abbrev pub without_unit : List (List ℕ × ℕ) → List ℕ → List ℕ × ℕ
 without_unit [] t = (t, 1)
-without_unit (u ∷ us) t = with_factor (cut u.0 t) u.1 (without_unit us t)
+without_unit (u ∷ us) t = with_factor (text_before_unit u.0 t) u.1 (without_unit us t)
 
 -- one digit or more, and nothing else
 abbrev pub is_numeral : List ℕ → Bool

@@ -79,8 +79,8 @@ is_joined o n w = may_take o.takes && not (length o.letter.now == 0) && not (lac
     && starts_with nat_eq w o.letter.now
 
 -- the joined value: the text after the letter
-abbrev pub joined : Known → List ℕ → List ℕ → Option (List ℕ)
-joined o n w = if is_joined o n w then Some (drop (length o.letter.now) w) else None
+abbrev pub joined_value : Known → List ℕ → List ℕ → Option (List ℕ)
+joined_value o n w = if is_joined o n w then Some (drop (length o.letter.now) w) else None
 
 -- an option with its value, or else the result so far
 abbrev pub with_value : Known → Option (List ℕ) → Option (Known × List ℕ)
@@ -91,7 +91,7 @@ with_value o (Some v) next = Some (o, v)
 -- the first option with a value joined to its letter, and the value
 abbrev pub option_joined : List Known → List ℕ → List ℕ → Option (Known × List ℕ)
 option_joined [] n w = None
-option_joined (o ∷ os) n w = with_value o (joined o n w) (option_joined os n w)
+option_joined (o ∷ os) n w = with_value o (joined_value o n w) (option_joined os n w)
 
 -- the record of an option that is given with this value
 abbrev pub given_of : Option Known → List ℕ → List (List ℕ × List ℕ × ℕ × ℕ)

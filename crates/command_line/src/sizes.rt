@@ -1,7 +1,7 @@
 //! Sizes, in bytes.
 ghost use Rattle.std.specs.Prelude.{◌≡◌, MatchOption, false, map, true};
 ghost use Rattle.std.specs.Option.{option_map};
-ghost use Rattle.command_line.specs.Sizes.{cut, is_size, size_value, without_unit};
+ghost use Rattle.command_line.specs.Sizes.{text_before_unit, is_size, size_value, without_unit};
 
 // The units that may follow a number, each with its factor: the longer ones first.
 const UNITS: [(&str, usize); 6] = [
@@ -42,7 +42,7 @@ fn without_unit<'a>(units: &[(&str, usize)], text: &'a str) -> (&'a str, usize)
 
 // Returns the text before this unit, if a text ends with it.
 fn cut<'a>(unit: &str, text: &'a str) -> Option<&'a str>
-    ensures { option_map (λ t. t.now) result ≡ cut unit.now text.now }
+    ensures { option_map (λ t. t.now) result ≡ text_before_unit unit.now text.now }
 {
     text.strip_suffix(unit)
 }

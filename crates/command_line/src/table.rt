@@ -1,7 +1,7 @@
 //! The options that a program has.
 ghost use Rattle.std.specs.Prelude.{◌≡◌};
 ghost use Rattle.std.specs.Option.{option_map};
-ghost use Rattle.command_line.specs.Words.{joined, lacks_dash, may_take, option_joined, option_named};
+ghost use Rattle.command_line.specs.Words.{joined_value, lacks_dash, may_take, option_joined, option_named};
 
 /// An option that a program has.
 #[derive(Clone, Copy)]
@@ -82,7 +82,7 @@ pub fn option_joined<'a>(known: &[Known], name: &str, word: &'a str) -> Option<(
 // Returns the value that is joined to the option's letter in this word, which has this name before
 // `=`.
 fn joined<'a>(option: &Known, name: &str, word: &'a str) -> Option<&'a str>
-    ensures { option_map (λ v. v.now) result ≡ joined option.now name.now word.now }
+    ensures { option_map (λ v. v.now) result ≡ joined_value option.now name.now word.now }
 {
     if !may_take(option.takes) || option.letter.is_empty() || lacks_dash(option, name) {
         return None;

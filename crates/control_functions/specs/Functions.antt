@@ -2,7 +2,7 @@
 use Rattle.std.specs.Prelude.{ℕ, ◌+◌, ◌*◌, Bool, ◌==◌, ◌&&◌, ◌||◌, nat_le, if◌then◌else◌, List, [], ◌∷◌, map, length, get_or, Option, Some, None}
 use Rattle.esc_values.specs.declared.csi_param.CsiParam.{CsiParam}
 use Rattle.esc_values.specs.declared.csi_param.CsiParam.TheVariants.{Integer, P}
-use Rattle.control_functions.specs.Rows.{packed, first_grouped, group}
+use Rattle.control_functions.specs.Rows.{base_256, first_grouped, group}
 use Rattle.control_functions.specs.declared.row.Row.{Row}
 use Rattle.control_functions.specs.declared.control_function.ControlFunction.{ControlFunction}
 use Rattle.control_functions.specs.declared.control_table.TheConstants.{NAMES, ROWS, STARTS, WORDS}
@@ -57,15 +57,15 @@ is_long last n = ((last == 0x54) && nat_le 2 n)
 
 -- the beginning of the key of a sequence, by its marks, packed, its count of parameters and its
 -- final byte
-abbrev pub lead : ℕ → ℕ → ℕ → ℕ
-lead m n last = if (m == 1) && is_long last n then 2 else m
+abbrev pub key_beginning : ℕ → ℕ → ℕ → ℕ
+key_beginning m n last = if (m == 1) && is_long last n then 2 else m
 
 abbrev pub key_with : ℕ → ℕ → ℕ → ℕ
-key_with m n last = 256 * lead m n last + last
+key_with m n last = 256 * key_beginning m n last + last
 
 -- the key of a sequence of these parameters and this final byte
 abbrev pub sequence_key : List CsiParam → ℕ → ℕ
-sequence_key es last = key_with (packed 1 (marks es)) (length es) last
+sequence_key es last = key_with (base_256 1 (marks es)) (length es) last
 
 -- the function of a control sequence; none if parameters were left out, since an intermediate may
 -- be among them

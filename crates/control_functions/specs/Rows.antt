@@ -3,9 +3,9 @@ use Rattle.std.specs.Prelude.{ℕ, ◌+◌, ◌-◌, ◌*◌, ◌%◌, ◌<◌, 
 use Rattle.esc_values.specs.Params.{is_from}
 
 -- bytes as digits to the base 256, after those of n
-abbrev pub packed : ℕ → List ℕ → ℕ
-packed n [] = n
-packed n (b ∷ bs) = packed (256 * n + b) bs
+abbrev pub base_256 : ℕ → List ℕ → ℕ
+base_256 n [] = n
+base_256 n (b ∷ bs) = base_256 (256 * n + b) bs
 
 -- the function of the first of these rows that has this key
 abbrev pub first_keyed : {R F : Type 0} → (R → ℕ) → (R → F) → List R → ℕ → Option F

@@ -12,7 +12,7 @@ ghost use Rattle.std.specs.Prelude.{◌≡◌, ◌<◌, ◌+◌, ◌*◌, []};
 ghost use Rattle.esc_sequences.specs.Csis.{csi_value};
 ghost use Rattle.control_functions.specs.Effects.{changes_screen, is_answered, is_screen_effect, is_answered_effect};
 ghost use Rattle.control_functions.specs.Functions.{function_of, key_of, key_with, name_of, function_of_csi, place, put_mark, sequence_key, words_of};
-ghost use Rattle.control_functions.specs.Rows.{packed};
+ghost use Rattle.control_functions.specs.Rows.{base_256};
 
 use crate::control_function::ControlFunction;
 use crate::effect::Effect;
@@ -335,7 +335,7 @@ impl ControlFunction {
         last: u8,
     ) -> Option<ControlFunction>
         ensures { result
-            ≡ function_of (256 * packed 1
+            ≡ function_of (256 * base_256 1
             (put_mark private_prefix (put_mark intermediate [])) + last) }
     {
         with_key(marks_of(private_prefix, intermediate) * 0x100 + last as u32)
@@ -350,7 +350,7 @@ impl ControlFunction {
         last: u8,
     ) -> Option<ControlFunction>
         ensures { result ≡ function_of (key_with
-            (packed 1 (put_mark private_prefix (put_mark intermediate []))) count last) }
+            (base_256 1 (put_mark private_prefix (put_mark intermediate []))) count last) }
     {
         with_key(key_with(marks_of(private_prefix, intermediate), count, last))
     }

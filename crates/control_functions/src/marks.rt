@@ -1,7 +1,7 @@
 //! The private prefix and the intermediates of a control sequence, and its key.
 ghost use Rattle.std.specs.Prelude.{◌≡◌, ◌<◌, ◌≤◌, ◌^◌, ◌+◌, ◌*◌, [], IfNone, IfSome};
-ghost use Rattle.control_functions.specs.Functions.{is_long, key_with, lead, mark_of, marks, put_mark};
-ghost use Rattle.control_functions.specs.Rows.{packed};
+ghost use Rattle.control_functions.specs.Functions.{is_long, key_with, key_beginning, mark_of, marks, put_mark};
+ghost use Rattle.control_functions.specs.Rows.{base_256};
 
 use esc_values::CsiParam;
 
@@ -10,9 +10,9 @@ use esc_values::CsiParam;
 #[tactic(auto, using(crate::proofs::Packed::no_mark, crate::proofs::Packed::one_mark, crate::proofs::Packed::third_mark))]
 #[inline]
 pub(crate) fn packed_marks(csi_params: &[CsiParam]) -> Option<u32>
-    ensures same { IfSome result (λ m. m ≡ packed 1 (marks csi_params.now)) }
+    ensures same { IfSome result (λ m. m ≡ base_256 1 (marks csi_params.now)) }
     ensures few { IfSome result (λ m. m < 2 ^ 24) }
-    ensures many { IfNone result (2 ^ 24 ≤ packed 1 (marks csi_params.now)) }
+    ensures many { IfNone result (2 ^ 24 ≤ base_256 1 (marks csi_params.now)) }
 {
     let mut packed = 1;
     for entry in csi_params {
@@ -39,7 +39,7 @@ fn mark_of(entry: CsiParam) -> Option<u8>
 
 // Returns these marks, packed.
 pub(crate) fn marks_of(private_prefix: Option<u8>, intermediate: Option<u8>) -> u32
-    ensures same { result ≡ packed 1 (put_mark private_prefix (put_mark intermediate [])) }
+    ensures same { result ≡ base_256 1 (put_mark private_prefix (put_mark intermediate [])) }
     ensures few { result < 2 ^ 24 }
 {
     match (private_prefix, intermediate) {
@@ -63,7 +63,7 @@ pub(crate) fn key_with(marks: u32, count: usize, last: u8) -> u32
 #[inline]
 fn lead(marks: u32, count: usize, last: u8) -> u32
     requires { marks < 2 ^ 24 }
-    ensures same { result ≡ lead marks count last }
+    ensures same { result ≡ key_beginning marks count last }
     ensures few { result < 2 ^ 24 }
 {
     if marks != 1 {

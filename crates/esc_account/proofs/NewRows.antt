@@ -4,7 +4,7 @@ use Rattle.std.proofs.lemmas.Bool.{eqb-true}
 use Rattle.std.proofs.lemmas.List.{map-append}
 use Rattle.std.specs.Cmp.{IsEquivalence}
 use Rattle.esc_account.specs.Entries.{order}
-use Rattle.esc_account.specs.Rows.{BeginsOne, HasRowsOf, Named, after_these, begun, has_row, is_row, joined, joined_to, last_of, names_in, rows_for, rows_of, under}
+use Rattle.esc_account.specs.Rows.{BeginsOne, HasRowsOf, Named, after_these, begun, has_row, is_row, joined_entries, joined_to, last_of, names_in, rows_for, rows_of, under}
 use Rattle.esc_account.specs.declared.row.Row.{Row}
 use Rattle.esc_account.specs.declared.table.Table.{Table}
 use Rattle.esc_account.proofs.Rows.{more, row_is, rows_more, with_more}
@@ -29,9 +29,9 @@ module _ {N A : Type 0} (same : N → N → Bool) (eq : IsEquivalence same) wher
   renamed : (t : Table N A) (es : List (Named N)) (x : Named N) → HasRowsOf same t es
       → has_row same t.rows.items (after_these es x).entry.fate (after_these es x).name ≡ false
       → after_these es x ≡ x
-  renamed t es x has none = by (last_of None (joined es)) refl none
+  renamed t es x has none = by (last_of None (joined_entries es)) refl none
     where
-      by : (b : Option (Named N)) → last_of None (joined es) ≡ b
+      by : (b : Option (Named N)) → last_of None (joined_entries es) ≡ b
           → has_row same t.rows.items x.entry.fate (joined_to b x).name ≡ false
           → joined_to b x ≡ x
       by None is h = refl
@@ -66,7 +66,7 @@ module _ {N A : Type 0} (same : N → N → Bool) (eq : IsEquivalence same) wher
       all =
           ap names_in
           (is.rows ∙ ap (rows_of same) (joined_more None es x)
-          ∙ rows_more same eq (joined es) e
+          ∙ rows_more same eq (joined_entries es) e
           ∙ ap (λ l. with_more same eq e (rows_for same l e)) (sym was.rows))
           ∙ same_names same eq e (rows_for same t.rows.items e)
 

@@ -7,7 +7,7 @@ use Rattle.std.specs.Cmp.{IsEquivalence}
 use Rattle.std.specs.List.{filter, list_any}
 use Rattle.esc_account.specs.Entries.{order}
 use Rattle.esc_account.specs.Rows.{GoesTo, IsRowOf, Named, are_one, begun, bytes_in, firsts, firsts_after, has_row, is_row, row_of, rows_for, rows_of, things_in, up_to_most}
-use Rattle.esc_account.specs.Tables.{grown, sum_up_to, things}
+use Rattle.esc_account.specs.Tables.{row_plus, sum_up_to, things}
 use Rattle.esc_account.specs.declared.fate.Fate.{Fate}
 use Rattle.esc_account.specs.declared.row.Row.{Row}
 
@@ -164,7 +164,7 @@ module _ {N : Type 0} (same : N → N → Bool) (eq : IsEquivalence same) where
   bytes_both (x ∷ xs) ys = omega (arith, bytes_both xs ys)
 
   abbrev pub more : Named N → Row N → Row N
-  more e r = grown r (things e.entry) (length e.entry.bytes)
+  more e r = row_plus r (things e.entry) (length e.entry.bytes)
 
   abbrev row_with : Named N → ℕ → ℕ → Row N
   row_with f n m = record {
@@ -340,11 +340,11 @@ module _ {N : Type 0} (same : N → N → Bool) (eq : IsEquivalence same) where
   -- a row of so much more keeps its fate and name
   pub goes_on : (rows others : List (Row N)) (at : ℕ) (e : Named N) (n m : ℕ)
       → (h : IsRowOf same rows at e.entry.fate e.name)
-      → others ≡ h.before ++ grown h.row n m ∷ h.after
+      → others ≡ h.before ++ row_plus h.row n m ∷ h.after
       → IsRowOf same others at e.entry.fate e.name
   goes_on rows others at e n m h is = record {
     before = h.before;
-    row = grown h.row n m;
+    row = row_plus h.row n m;
     after = h.after;
     whole = is;
     place = h.place;
@@ -364,11 +364,11 @@ module _ {N : Type 0} (same : N → N → Bool) (eq : IsEquivalence same) where
 
   pub written_more : (rows others : List (Row N)) (at : ℕ) (e : Named N) (n m : ℕ)
       → (h : IsRowOf same rows at e.entry.fate e.name)
-      → others ≡ h.before ++ grown h.row n m ∷ h.after
+      → others ≡ h.before ++ row_plus h.row n m ∷ h.after
       → n ≡ things e.entry → m ≡ length e.entry.bytes → others ≡ with_more e rows
   written_more rows others at e n m h is en em =
-      is ∙ ap (λ k. h.before ++ grown h.row k m ∷ h.after) en
-      ∙ ap (λ k. h.before ++ grown h.row (things e.entry) k ∷ h.after) em
+      is ∙ ap (λ k. h.before ++ row_plus h.row k m ∷ h.after) en
+      ∙ ap (λ k. h.before ++ row_plus h.row (things e.entry) k ∷ h.after) em
       ∙ more_at h.before h.after h.row e h.none h.is ∙ ap (with_more e) (sym h.whole)
 
   at_end : (rows after : List (Row N)) (r : Row N) (f : Fate) (n : N) → is_row same r f n ≡ true
@@ -416,7 +416,7 @@ module _ {N : Type 0} (same : N → N → Bool) (eq : IsEquivalence same) where
   -- the rows of an entry more, which goes to the row here
   pub one_goes : (es : List (Named N)) (old rows others : List (Row N)) (at : ℕ) (e : Named N)
       (n m : ℕ) → old ≡ rows_of same es → (h : GoesTo same old rows at e)
-      → others ≡ h.row.before ++ grown h.row.row n m ∷ h.row.after
+      → others ≡ h.row.before ++ row_plus h.row.row n m ∷ h.row.after
       → n ≡ things e.entry → m ≡ length e.entry.bytes → others ≡ rows_of same (es ++ e ∷ [])
   one_goes es old rows others at e n m was h is en em =
       written_more rows others at e n m h.row is en em

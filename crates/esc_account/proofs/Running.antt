@@ -8,7 +8,7 @@ use Rattle.esc_frame.specs.Segments.Segment.{Character, Control, Wide}
 use Rattle.esc_frame.specs.Sequences.{is_sequence}
 use Rattle.esc_frame.proofs.Cut.WellFormedIsUtf8.{two_is}
 use Rattle.esc_segments.specs.Items.{kind_of}
-use Rattle.esc_account.specs.Accounts.{Rule, sums_with, all_passed, carried, entered_as, fate_after, feeds, step}
+use Rattle.esc_account.specs.Accounts.{Rule, sums_with, all_passed, terminator_fate, entered_as, fate_after, feeds, step}
 use Rattle.esc_account.specs.Entries.{Entry, entry_of, is_noted, is_passed, noted_entries}
 use Rattle.esc_account.specs.Finished.{Finishes, HasNoEnd, account_after, ended_entries}
 use Rattle.esc_account.specs.LineEnds.{is_return_feed}
@@ -36,7 +36,7 @@ own_fate (Some f) (Wide x) own h = refl
 own_fate (Some f) (Control b) own h = refl
 own_fate (Some f) _ own h = absurd h
 
-no_string : (g : Shape) (f : Fate) → IsPlain g → carried (kind_of g) (bytes_of g) f ≡ None
+no_string : (g : Shape) (f : Fate) → IsPlain g → terminator_fate (kind_of g) (bytes_of g) f ≡ None
 no_string (Character b) f h = refl
 no_string (Wide x) f h = refl
 no_string (Control b) f h = refl
@@ -54,7 +54,7 @@ one_passes r x g h p =
     ap (entered_as x (kind_of g) (bytes_of g)) p
     ∙ ap (λ f. record {
       sums = sums_with f n x.sums;
-      string = carried (kind_of g) (bytes_of g) f;
+      string = terminator_fate (kind_of g) (bytes_of g) f;
       before = says g;
       lines = x.lines + feeds (bytes_of g);
     }) (own_fate x.string g fates.Passed h)

@@ -5,8 +5,8 @@ use Rattle.std.proofs.lemmas.List.{get_or_at}
 use Rattle.std.specs.Cmp.{IsEquivalence}
 use Rattle.std.specs.Prelude.{IfOk}
 use Rattle.esc_account.specs.Entries.{order}
-use Rattle.esc_account.specs.Rows.{GoesTo, HasRowsOf, IsOther, IsRowOf, Named, after_these, has_row, is_row, joined, joined_after, joined_to, last_of, name_after, rows_of, under}
-use Rattle.esc_account.specs.Tables.{IsRow, grown, things}
+use Rattle.esc_account.specs.Rows.{GoesTo, HasRowsOf, IsOther, IsRowOf, Named, after_these, has_row, is_row, joined_entries, joined_after, joined_to, last_of, name_after, rows_of, under}
+use Rattle.esc_account.specs.Tables.{IsRow, row_plus, things}
 use Rattle.esc_account.specs.declared.fate.Fate.{Fate}
 use Rattle.esc_account.specs.declared.fate.Fate.TheVariants as fates
 use Rattle.esc_account.specs.declared.row.Row.{Row}
@@ -122,8 +122,8 @@ module _ {N A : Type 0} (same : N → N → Bool) (eq : IsEquivalence same) (t :
       → GoesTo same t.rows.items t.rows.items t.last (after_these es e)
   ends_row h end =
       found_row same eq t.rows.items t.last (after_these es e)
-      (takes_name same t.rows.items t.last (last_of None (joined es)) e has.last h
-      (λ none. has.rows ∙ ap (rows_of same) (none_last (joined es) none)) end)
+      (takes_name same t.rows.items t.last (last_of None (joined_entries es)) e has.last h
+      (λ none. has.rows ∙ ap (rows_of same) (none_last (joined_entries es) none)) end)
 
   -- the name stays, where the entry ends nothing, or a row of another fate came last
   pub stays_so : (rows : List (Row N)) (at : ℕ)
@@ -137,8 +137,10 @@ module _ {N A : Type 0} (same : N → N → Bool) (eq : IsEquivalence same) (t :
       by : (b : Bool) → b ≡ e.entry.is_end
           → (b ≡ true → IsOther t.rows.items t.last e.entry.fate) → after_these es e ≡ e
       by true is other =
-          keeps_name same t.rows.items t.last (last_of None (joined es)) e has.last (other refl)
-      by false is other = no_end same t.rows.items t.last (last_of None (joined es)) e (sym is)
+          keeps_name same t.rows.items t.last (last_of None (joined_entries es)) e has.last
+              (other refl)
+      by false is other =
+          no_end same t.rows.items t.last (last_of None (joined_entries es)) e (sym is)
 
   pub stays_ok : {E : Type 0} (rows : List (Row N)) (r : Result ℕ E)
       → (e.entry.is_end ≡ true → IsOther t.rows.items t.last e.entry.fate)
@@ -149,16 +151,17 @@ module _ {N A : Type 0} (same : N → N → Bool) (eq : IsEquivalence same) (t :
 
   pub added_rows : (rows : List (Row N)) (at n m : ℕ) (u : Table N A)
       → (h : GoesTo same t.rows.items rows at (after_these es e))
-      → u.rows.items ≡ h.row.before ++ grown h.row.row n m ∷ h.row.after → u.last ≡ at
+      → u.rows.items ≡ h.row.before ++ row_plus h.row.row n m ∷ h.row.after → u.last ≡ at
       → n ≡ things e.entry → m ≡ length e.entry.bytes → HasRowsOf same u (es ++ e ∷ [])
   added_rows rows at n m u h is last en em = record {
     rows =
-        one_goes same eq (joined es) t.rows.items rows u.rows.items at (after_these es e) n m
+        one_goes same eq (joined_entries es) t.rows.items rows u.rows.items at
+            (after_these es e) n m
         has.rows h is en em
         ∙ ap (rows_of same) (sym (joined_more None es e));
     last = λ d k.
         let one : after_these es e ≡ d =
-        by d (sym (last_more None (joined es) (after_these es e))
+        by d (sym (last_more None (joined_entries es) (after_these es e))
         ∙ ap (last_of None) (sym (joined_more None es e)) ∙ k) in
         let P : Named N → Type 0 =
         λ d. IsRowOf same u.rows.items u.last d.entry.fate d.name in

@@ -2,7 +2,7 @@
 use Rattle.std.proofs.Common.{ℕ, zero, suc, ◌≡◌, ◌+◌, ◌<◌, ◌==◌, ◌^◌, Bool, true, false, if◌then◌else◌, List, [], ◌∷◌, ◌++◌, length, get_or, set, refl, sym, ap, ◌∙◌, arith}
 use Rattle.std.proofs.lemmas.List.{get_or_at, set_at}
 use Rattle.esc_account.specs.Entries.{Entry, bytes_with, order, part}
-use Rattle.esc_account.specs.Tables.{HasAllRows, IsRow, SameRows, grown, rows_with, sum_up_to, things, things_with}
+use Rattle.esc_account.specs.Tables.{HasAllRows, IsRow, SameRows, row_plus, rows_with, sum_up_to, things, things_with}
 use Rattle.esc_account.specs.declared.fate.Fate.{Fate}
 use Rattle.esc_account.specs.declared.row.Row.{Row}
 
@@ -43,7 +43,7 @@ things_more f (d ∷ es) e = omega (arith, things_more f es e)
 -- an entry more, in a row of its fate
 pub one_added : {N : Type 0} (rows others : List (Row N)) (at : ℕ) (es : List Entry) (e : Entry)
     (n m : ℕ) → HasAllRows rows es → (h : IsRow rows at e.fate) → n ≡ things e
-    → m ≡ length e.bytes → others ≡ h.before ++ grown h.row n m ∷ h.after
+    → m ≡ length e.bytes → others ≡ h.before ++ row_plus h.row n m ∷ h.after
     → HasAllRows others (es ++ e ∷ [])
 one_added {N} rows others at es e n m all h one bytes is = record {
   bytes = λ f few.
@@ -57,7 +57,7 @@ one_added {N} rows others at es e n m all h one bytes is = record {
 }
   where
     by : (measure : Row N → ℕ) (k : ℕ) (f : Fate)
-        → measure (grown h.row n m) ≡ sum_up_to (measure h.row) k
+        → measure (row_plus h.row n m) ≡ sum_up_to (measure h.row) k
         → (old new : ℕ) → new ≡ old + part f e.fate k
         → (old < 2 ^ 64 → rows_with measure f rows ≡ old) → new < 2 ^ 64
         → rows_with measure f others ≡ new
@@ -72,7 +72,7 @@ one_added {N} rows others at es e n m all h one bytes is = record {
           w,
           p,
           ap (rows_with measure f) is,
-          row_grows measure f h.before h.after h.row (grown h.row n m) k refl em
+          row_grows measure f h.before h.after h.row (row_plus h.row n m) k refl em
               (omega (arith, was, w, p, more, few)),
         )
 
@@ -111,14 +111,14 @@ split (x ∷ xs) (suc i) y few is =
 pub row_written : {N : Type 0} (rows p q : List (Row N)) (r k : Row N) (at n m a b : ℕ)
     → rows ≡ p ++ r ∷ q → length p ≡ at → k ≡ get_or rows at k → a ≡ sum_up_to k.count n
     → b ≡ sum_up_to k.bytes m
-    → set rows at (record k { count = a; bytes = b }) ≡ p ++ grown r n m ∷ q
+    → set rows at (record k { count = a; bytes = b }) ≡ p ++ row_plus r n m ∷ q
 row_written rows p q r k at n m a b whole place is ea eb =
     let same : k ≡ r = is ∙ ap (λ v. get_or v at k) whole ∙ get_or_at p r q k at place in
     ap (λ v. set v at (record k { count = a; bytes = b })) whole
     ∙ set_at p r q (record k { count = a; bytes = b }) at place
     ∙ ap (λ v. p ++ (record k { count = v; bytes = b }) ∷ q) ea
     ∙ ap (λ v. p ++ (record k { count = sum_up_to k.count n; bytes = v }) ∷ q) eb
-    ∙ ap (λ v. p ++ grown v n m ∷ q) same
+    ∙ ap (λ v. p ++ row_plus v n m ∷ q) same
 
 pub row_here : {N : Type 0} (rows : List (Row N)) (at : ℕ) (r : Row N) (f : Fate)
     → at < length rows → r ≡ get_or rows at r → r.fate ≡ f → IsRow rows at f

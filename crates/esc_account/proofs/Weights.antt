@@ -8,7 +8,7 @@ use Rattle.esc_actions.specs.declared.action.Action.{Action}
 use Rattle.esc_parse.specs.Given.{At}
 use Rattle.esc_filter.specs.declared.guard.Guard.{Guard}
 use Rattle.esc_account.specs.Rules.{before_after, fate_of, is_own, is_shown, is_written}
-use Rattle.esc_account.specs.Weighed.{fate_by, unweighed, weighed_all, weighed_with}
+use Rattle.esc_account.specs.Weighed.{fate_by, facts_of_none, weighed_all, weighed_with}
 use Rattle.esc_account.specs.Weighings.{HasWeighed, Weighs}
 use Rattle.esc_account.specs.declared.policy_judge.PolicyJudge.{PolicyJudge}
 use Rattle.esc_account.specs.declared.verdict.Verdict.{Verdict}
@@ -65,25 +65,27 @@ module _ {A : Type 0} (by_lines : Bool) (u : Guard) (admits : Value A → Bool) 
   last_is w (v ∷ vs) = last_is (With w v) vs
 
   fate_is : (bytes : List ℕ) (vs : List (Value A))
-      → fate_by (All (unweighed b) vs) k bytes (list_text vs)
+      → fate_by (All (facts_of_none b) vs) k bytes (list_text vs)
       ≡ fate_of by_lines u admits b k bytes vs
   fate_is bytes vs =
-      rw (own_is (unweighed b) vs, all_is (unweighed b) vs, some_is (unweighed b) vs) refl
+      rw (own_is (facts_of_none b) vs, all_is (facts_of_none b) vs, some_is (facts_of_none b) vs)
+          refl
 
   abbrev verdict : Weighed → List ℕ → List (Value A) → Verdict
   verdict w bytes vs = record { fate = fate_by w k bytes (list_text vs); before = w.last }
 
   -- the verdict on what this is known of
-  pub verdict_is : (bytes : List ℕ) (vs : List (Value A)) (w : Weighed) → w ≡ All (unweighed b) vs
+  pub verdict_is : (bytes : List ℕ) (vs : List (Value A)) (w : Weighed) → w
+      ≡ All (facts_of_none b) vs
       → verdict w bytes vs ≡ record {
         fate = fate_of by_lines u admits b k bytes vs;
         before = before_after u admits b vs;
       }
   verdict_is bytes vs w e =
       ap (λ x. verdict x bytes vs) e
-      ∙ ap (λ f. record { fate = f; before = (All (unweighed b) vs).last }) (fate_is bytes vs)
+      ∙ ap (λ f. record { fate = f; before = (All (facts_of_none b) vs).last }) (fate_is bytes vs)
       ∙ ap (λ l. record { fate = fate_of by_lines u admits b k bytes vs; before = l })
-      (last_is (unweighed b) vs)
+      (last_is (facts_of_none b) vs)
 
 -- ---- what weighs them
 

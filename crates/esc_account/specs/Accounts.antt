@@ -91,8 +91,8 @@ fate_after None k bytes own = own
 fate_after (Some f) k bytes own = if is_terminator k bytes then end_fate f bytes else own
 
 -- the fate that decides on a terminator directly after the segment
-abbrev pub carried : SegmentKind → List ℕ → Fate → Option Fate
-carried k bytes f = if awaits_terminator k bytes then Some f else None
+abbrev pub terminator_fate : SegmentKind → List ℕ → Fate → Option Fate
+terminator_fate k bytes f = if awaits_terminator k bytes then Some f else None
 
 -- ---- accounts
 
@@ -109,7 +109,7 @@ begun = record { sums = nothing; string = None; before = None; lines = 0 }
 abbrev pub entered_as : Account → SegmentKind → List ℕ → Verdict → Account
 entered_as x k bytes own = record {
   sums = sums_with (fate_after x.string k bytes own.fate) (length bytes) x.sums;
-  string = carried k bytes (fate_after x.string k bytes own.fate);
+  string = terminator_fate k bytes (fate_after x.string k bytes own.fate);
   before = own.before;
   lines = x.lines + feeds bytes;
 }

@@ -74,8 +74,8 @@ abbrev pub joined_after : {N : Type 0} → Option (Named N) → List (Named N) �
 joined_after b [] = []
 joined_after b (e ∷ es) = joined_to b e ∷ joined_after (Some (joined_to b e)) es
 
-abbrev pub joined : {N : Type 0} → List (Named N) → List (Named N)
-joined es = joined_after None es
+abbrev pub joined_entries : {N : Type 0} → List (Named N) → List (Named N)
+joined_entries es = joined_after None es
 
 -- the last of these
 abbrev pub last_of : {N : Type 0} → Option (Named N) → List (Named N) → Option (Named N)
@@ -131,13 +131,13 @@ pub record GoesTo {N : Type 0} (same : N → N → Bool) (old rows : List (Row N
 -- the table has the rows of these entries
 pub record HasRowsOf {N A : Type 0} (same : N → N → Bool) (t : Table N A) (es : List (Named N))
     : Type 0 where
-  pub rows : t.rows.items ≡ rows_of same (joined es)
-  pub last : (e : Named N) → last_of None (joined es) ≡ Some e
+  pub rows : t.rows.items ≡ rows_of same (joined_entries es)
+  pub last : (e : Named N) → last_of None (joined_entries es) ≡ Some e
       → IsRowOf same t.rows.items t.last e.entry.fate e.name
 
 -- the entry, under the name that it has after these
 abbrev pub after_these : {N : Type 0} → List (Named N) → Named N → Named N
-after_these es e = joined_to (last_of None (joined es)) e
+after_these es e = joined_to (last_of None (joined_entries es)) e
 
 abbrev pub names_in : {N : Type 0} → List (Row N) → List N
 names_in rows = map (λ r. r.name) rows

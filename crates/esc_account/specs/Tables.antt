@@ -54,5 +54,5 @@ abbrev pub sum_up_to : ℕ → ℕ → ℕ
 sum_up_to a b = min (a + b) (2 ^ 64 - 1)
 
 -- the row with so many things and bytes more
-abbrev pub grown : {N : Type 0} → Row N → ℕ → ℕ → Row N
-grown r n m = record r { count = sum_up_to r.count n; bytes = sum_up_to r.bytes m }
+abbrev pub row_plus : {N : Type 0} → Row N → ℕ → ℕ → Row N
+row_plus r n m = record r { count = sum_up_to r.count n; bytes = sum_up_to r.bytes m }

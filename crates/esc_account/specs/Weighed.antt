@@ -10,8 +10,8 @@ use Rattle.esc_account.specs.declared.fate.Fate.TheVariants as fates
 use Rattle.esc_account.specs.declared.weighed.Weighed.{Weighed}
 
 -- the facts of no value, after this character
-abbrev pub unweighed : Option ℕ → Weighed
-unweighed b = record { has_own = false; writes_all = true; shows_some = false; last = b }
+abbrev pub facts_of_none : Option ℕ → Weighed
+facts_of_none b = record { has_own = false; writes_all = true; shows_some = false; last = b }
 
 -- the facts of one value more, in a segment of this kind that comes after this character
 abbrev pub weighed_with : {A : Type 0} → Bool → Guard → (Value A → Bool) → Option ℕ → SegmentKind

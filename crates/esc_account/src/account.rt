@@ -5,7 +5,7 @@ ghost use Rattle.std.specs.Prelude.{◌≡◌, ◌++◌, ◌∷◌, ◌<◌, ◌
 ghost use Rattle.esc_frame.specs.Segments.{AreSegments, Segment as Shape, IsCut, is_finished, joined_bytes};
 ghost use Rattle.esc_segments.specs.Items.{IsItem};
 ghost use Rattle.fallible_alloc.specs.Refusals.{Refused};
-ghost use Rattle.esc_account.specs.Accounts.{Counts, Enters, HasRoom, all_passed, begun, carried, entered_as, run, total};
+ghost use Rattle.esc_account.specs.Accounts.{Counts, Enters, HasRoom, all_passed, begun, terminator_fate, entered_as, run, total};
 ghost use Rattle.esc_account.specs.Entries.{Entry as Told, ends_string, entries, entry_as, entry_of, is_passed, noted_entries};
 ghost use Rattle.esc_account.specs.Ledgers.{LineEnters, LineGives};
 
@@ -254,7 +254,7 @@ fn ends_string(string: Option<Fate>, kind: SegmentKind, bytes: &[u8]) -> bool
 
 // Returns the fate that decides on a terminator after the segment.
 fn carried(kind: SegmentKind, bytes: &[u8], fate: Fate) -> Option<Fate>
-    ensures { result ≡ carried kind bytes.now fate }
+    ensures { result ≡ terminator_fate kind bytes.now fate }
 {
     if awaits_terminator(kind, bytes) {
         Some(fate)

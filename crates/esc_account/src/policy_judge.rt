@@ -14,7 +14,7 @@ ghost use Rattle.esc_filter.specs.Characters.{is_return, of_unicode};
 ghost use Rattle.unicode_visibility.specs.Characters.{is_deceiving};
 ghost use Rattle.esc_filter.specs.Passing.{is_line_feed};
 ghost use Rattle.esc_account.specs.Rules.{before_next, drops, drops_returns, is_dropped, is_replaced, is_shown, is_written, last_instead, last_return, rule_of, shows, shows_returns, spelling_of};
-ghost use Rattle.esc_account.specs.Weighed.{fate_by, unweighed, weighed_all};
+ghost use Rattle.esc_account.specs.Weighed.{fate_by, facts_of_none, weighed_all};
 
 use crate::command::{command_verdict, is_left_end};
 use crate::fate::Fate;
@@ -164,7 +164,7 @@ impl<P: Admit<A>, A: Allocator + Copy> PolicyJudge<P, A> {
         ensures given { (g : Shape) (gs : List Shape) → AreSegments (g ∷ gs)
             → IsItem segment.entry g (joined_bytes gs) → IfOk result (λ w. w
             ≡ weighed_all self.now.by_lines self.now.guard (P.admits self.now.policy) before
-            segment.entry.kind (unweighed before)
+            segment.entry.kind (facts_of_none before)
             (reading_within (Some self.now.limit) g (is_finished g (joined_bytes gs)))) }
         ensures refused { OnErr result (Refused A) }
     {
@@ -179,7 +179,7 @@ impl<P: Admit<A>, A: Allocator + Copy> PolicyJudge<P, A> {
         ensures { (g : Shape) (gs : List Shape) → AreSegments (g ∷ gs)
             → IsItem segment.entry g (joined_bytes gs) → IfSome result (λ w. w
             ≡ weighed_all self.now.by_lines self.now.guard (P.admits self.now.policy) before
-            segment.entry.kind (unweighed before)
+            segment.entry.kind (facts_of_none before)
             (reading_within (Some self.now.limit) g (is_finished g (joined_bytes gs)))) }
     {
         if !is_short(self.limit, segment) {
@@ -201,7 +201,7 @@ impl<P: Admit<A>, A: Allocator + Copy> PolicyJudge<P, A> {
         ensures given { (g : Shape) (gs : List Shape) → AreSegments (g ∷ gs)
             → IsItem segment.entry g (joined_bytes gs) → IfOk result (λ w. w
             ≡ weighed_all self.now.by_lines self.now.guard (P.admits self.now.policy) before
-            segment.entry.kind (unweighed before)
+            segment.entry.kind (facts_of_none before)
             (reading_within (Some self.now.limit) g (is_finished g (joined_bytes gs)))) }
         ensures refused { OnErr result (Refused A) }
     {

@@ -5,7 +5,7 @@ ghost use Rattle.std.specs.Prelude.{◌≡◌, ◌++◌, ◌∷◌, ◌<◌, ◌
 ghost use Rattle.fallible_alloc.specs.Refusals.{Refused};
 ghost use Rattle.esc_account.specs.Entries.{Entry as Told, as_entry, order};
 ghost use Rattle.esc_account.specs.Rows.{BeginsOne, GoesTo, HasRowsOf, IsOther, IsRowOf, Named, after_these, has_row, is_row, under};
-ghost use Rattle.esc_account.specs.Tables.{HasAll, HasAllRows, IsRow, SameRows, grown};
+ghost use Rattle.esc_account.specs.Tables.{HasAll, HasAllRows, IsRow, SameRows, row_plus};
 ghost use Rattle.esc_account.specs.declared.row.Row.{Row as Line};
 
 use crate::entry::Entry;
@@ -141,7 +141,7 @@ impl<N: Copy + Eq, A: Allocator> Table<N, A> {
     fn grow(&mut self, at: usize, count: u64, bytes: u64)
         requires { at < length self.old.rows.items }
         ensures { (p q : List (Line N)) (r : Line N) → self.old.rows.items ≡ p ++ r ∷ q
-            → length p ≡ at → self.new.rows.items ≡ p ++ grown r count bytes ∷ q }
+            → length p ≡ at → self.new.rows.items ≡ p ++ row_plus r count bytes ∷ q }
     {
         let row = &mut self.rows[at];
         row.count = row.count.saturating_add(count);

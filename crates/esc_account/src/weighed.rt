@@ -2,7 +2,7 @@
 #![tactic(auto)]
 
 ghost use Rattle.std.specs.Prelude.{◌≡◌};
-ghost use Rattle.esc_account.specs.Weighed.{unweighed};
+ghost use Rattle.esc_account.specs.Weighed.{facts_of_none};
 
 /// All that the fate of a segment rests on but its text, of the actions that came.
 #[derive(Clone, Copy)]
@@ -20,7 +20,7 @@ pub(crate) struct Weighed {
 impl Weighed {
     /// The facts about no action, after this character.
     pub fn unweighed(before: Option<char>) -> Weighed
-        ensures { result ≡ unweighed before }
+        ensures { result ≡ facts_of_none before }
     {
         Weighed {
             has_own: false,

@@ -86,18 +86,18 @@ cell_row ks x = record {
 }
 
 -- a request: a kind, and the mode that is asked for, if one is
-abbrev pub asked : ℕ → ℕ → RequestRow
-asked k n = record {
+abbrev pub mode_request : ℕ → ℕ → RequestRow
+mode_request k n = record {
   kind = k;
   mode = n;
 }
 
 abbrev pub request_row : Request → RequestRow
-request_row request.PrimaryAttributes = asked 1 0
-request_row request.SecondaryAttributes = asked 2 0
-request_row request.TertiaryAttributes = asked 3 0
-request_row request.NameAndVersion = asked 4 0
-request_row request.Status = asked 5 0
-request_row request.CursorPosition = asked 6 0
-request_row (request.ModeState n) = asked 7 n
-request_row (request.PrivateModeState n) = asked 8 n
+request_row request.PrimaryAttributes = mode_request 1 0
+request_row request.SecondaryAttributes = mode_request 2 0
+request_row request.TertiaryAttributes = mode_request 3 0
+request_row request.NameAndVersion = mode_request 4 0
+request_row request.Status = mode_request 5 0
+request_row request.CursorPosition = mode_request 6 0
+request_row (request.ModeState n) = mode_request 7 n
+request_row (request.PrivateModeState n) = mode_request 8 n

@@ -16,8 +16,8 @@ FilterHasConsumed limit p s = Keeps filter_in
     (λ f. HasConsumed {A = Global} limit (admits p) s f × (policy_of f ≡ p))
 
 -- the text of a stream that has ended
-abbrev pub closed : ℕ → Policy → List ℕ → List ℕ
-closed limit p = closed_text {A = Global} (Some limit) (admits p)
+abbrev pub filtered_text : ℕ → Policy → List ℕ → List ℕ
+filtered_text limit p = closed_text {A = Global} (Some limit) (admits p)
 
 -- The filter, which was fed s, was fed b too.
 pub record TakesFilter (limit : ℕ) (p : Policy) (s b : List ℕ) (f : InChunks) : Type 0 where
@@ -30,6 +30,6 @@ pub record TakesFilter (limit : ℕ) (p : Policy) (s b : List ℕ) (f : InChunks
 pub record FinishesFilter (limit : ℕ) (p : Policy) (s : List ℕ) (f : InChunks) : Type 0 where
   pub fed : FilterHasConsumed limit p [] f
   -- its text undoes the changes that s left
-  pub text : closed limit p s ≡ open_text limit p s ++ text_of f
+  pub text : filtered_text limit p s ≡ open_text limit p s ++ text_of f
   -- and the whole text reads back as the actions that pass and those that undo their changes
-  pub filtered : IsFiltered {A = Global} true (Some limit) (admits p) s (closed limit p s)
+  pub filtered : IsFiltered {A = Global} true (Some limit) (admits p) s (filtered_text limit p s)

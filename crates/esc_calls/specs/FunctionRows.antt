@@ -8,7 +8,7 @@ use Rattle.control_functions.specs.Effects.{changes_screen, is_answered}
 use Rattle.control_functions.specs.EscapeEffects.{changes_screen as escape_changes_screen, is_answered as escape_is_answered}
 use Rattle.control_functions.specs.Escapes.{function_of as escape_function_of, name_of as escape_name_of, sequence_key as escape_sequence_key, words_of as escape_words_of}
 use Rattle.control_functions.specs.Functions.{function_of, key_with, name_of, put_mark, words_of}
-use Rattle.control_functions.specs.Rows.{packed}
+use Rattle.control_functions.specs.Rows.{base_256}
 use Rattle.esc_calls.specs.declared.function_row.FunctionRow.{FunctionRow}
 
 -- a byte; 0 says that there is none
@@ -19,7 +19,7 @@ byte_of b = if b == 0 then None else Some b
 -- and this final byte
 abbrev pub function_with : ℕ → ℕ → ℕ → ℕ → Option ControlFunction
 function_with prefix intermediate count last =
-    let marks = packed 1 (put_mark (byte_of prefix) (put_mark (byte_of intermediate) [])) in
+    let marks = base_256 1 (put_mark (byte_of prefix) (put_mark (byte_of intermediate) [])) in
     function_of (key_with marks count last)
 
 -- the function of an escape sequence with this intermediate and this final byte

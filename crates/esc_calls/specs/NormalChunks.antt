@@ -14,8 +14,8 @@ abbrev pub NormaliserHasConsumed : ℕ → List ℕ → InChunks → Type 0
 NormaliserHasConsumed limit s = Keeps normaliser_in (HasConsumed {A = Global} (Some limit) s)
 
 -- the normal form of a stream within this limit
-abbrev pub formed : ℕ → List ℕ → List ℕ
-formed limit = normal_form Global (Some limit)
+abbrev pub normal_text : ℕ → List ℕ → List ℕ
+normal_text limit = normal_form Global (Some limit)
 
 -- The stream s has ended, and the normaliser is at the beginning of the next.
 pub record FinishesNormal (limit : ℕ) (s : List ℕ) (p : InChunks) : Type 0 where
@@ -23,4 +23,4 @@ pub record FinishesNormal (limit : ℕ) (s : List ℕ) (p : InChunks) : Type 0 w
   pub begun : Begins (NormaliserHasConsumed limit) p
   -- and if the meaning of s can be written, the text of s reads back as its normal list
   pub reads_back : AreWritable {A = Global} (meaning_within (Some limit) s)
-      → meaning (formed limit s) ≡ normal {A = Global} (meaning_within (Some limit) s)
+      → meaning (normal_text limit s) ≡ normal {A = Global} (meaning_within (Some limit) s)

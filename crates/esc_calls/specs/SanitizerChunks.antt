@@ -6,7 +6,7 @@ use Rattle.esc_sanitize.specs.Sanitized.{HasEnded, options_of}
 use Rattle.esc_sanitize.specs.Written.{IsOfTokens}
 use Rattle.esc_calls.specs.InChunks.{Keeps, text_of}
 use Rattle.esc_calls.specs.Kept.{sanitizer_in, sanitizer_state_in}
-use Rattle.esc_calls.specs.SanitizerStates.{IsFed, closed, going, whole_bytes}
+use Rattle.esc_calls.specs.SanitizerStates.{IsFed, sanitized_text, going, whole_bytes}
 use Rattle.esc_calls.specs.Sanitizers.{Settings, admitter}
 use Rattle.esc_calls.specs.declared.TheConstants.{NO_MEMORY, NOT_BEGUN}
 use Rattle.esc_calls.specs.declared.in_chunks.InChunks.{InChunks}
@@ -18,7 +18,7 @@ SanitizerHasConsumed o s = Keeps sanitizer_state_in (IsFed o s)
 -- The stream s has ended.
 pub record FinishesSanitizer (o : Settings) (s : List ℕ) (p : InChunks) : Type 0 where
   -- its text completes that of the stream
-  pub text : closed o s ≡ going o s ++ text_of p
+  pub text : sanitized_text o s ≡ going o s ++ text_of p
   -- the output is plain text, or characters, renditions and links, if no more passes
   pub chunks : IsOfTokens admitter o.filter
   -- and it has the account of the stream, or of its UTF-8 if it is in UTF-16

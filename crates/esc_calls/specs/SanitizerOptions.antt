@@ -115,15 +115,15 @@ usual_guard p rows =
     else record { characters = unicode.Keep; returns = returns.Keep }
 
 -- carriage returns are kept in a stream that is one
-abbrev pub framed : Returns → Bool → Returns
-framed way by_lines = if by_lines then way else returns.Keep
+abbrev pub stream_returns : Returns → Bool → Returns
+stream_returns way by_lines = if by_lines then way else returns.Keep
 
 pub record SaysGuard (r : SanitizerOptions) (usual : Guard) (by_lines : Bool) (g : Guard)
     : Type 0 where
   pub characters : characters_numbered r.characters usual.characters ≡ Some g.characters
   pub way : Returns
   pub named : returns_numbered r.returns usual.returns ≡ Some way
-  pub returns : g.returns ≡ framed way by_lines
+  pub returns : g.returns ≡ stream_returns way by_lines
 
 -- ---- rows that may be written again
 

@@ -30,8 +30,8 @@ decoder_after (Some k) s = Some (decoder_of k s)
 abbrev pub going : Settings → List ℕ → List ℕ
 going o s = going_of admitter o.filter (going_bytes o.order s)
 
-abbrev pub closed : Settings → List ℕ → List ℕ
-closed o s = text_of admitter o.filter (whole_bytes o.order s)
+abbrev pub sanitized_text : Settings → List ℕ → List ℕ
+sanitized_text o s = text_of admitter o.filter (whole_bytes o.order s)
 
 -- the text that the last call added
 abbrev pub state_text : SanitizerState → List ℕ
@@ -54,6 +54,6 @@ pub record IsClosing (o : Settings) (s : List ℕ) (z : SanitizerState) : Type 0
 
 -- the stream s has ended: the text completes that of s, and the account is that of s
 pub record Finishes (o : Settings) (s : List ℕ) (z : SanitizerState) : Type 0 where
-  pub text : closed o s ≡ going o s ++ state_text z
+  pub text : sanitized_text o s ≡ going o s ++ state_text z
   pub account : HasEnded admitter (whole_bytes o.order s) z.sanitizer
       × (options_of z.sanitizer ≡ o.filter)

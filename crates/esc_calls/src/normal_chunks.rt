@@ -2,7 +2,7 @@
 ghost use Rattle.std.specs.Prelude.{◌≡◌, ◌≢◌, ◌↔◌, ℕ, List};
 ghost use Rattle.esc_calls.specs.InChunks.{Begins, Breaks, IsEnded, KeepsNone, Stays, Takes, text_of};
 ghost use Rattle.esc_calls.specs.Kept.{normaliser_in};
-ghost use Rattle.esc_calls.specs.NormalChunks.{FinishesNormal, NormaliserHasConsumed, formed};
+ghost use Rattle.esc_calls.specs.NormalChunks.{FinishesNormal, NormaliserHasConsumed, normal_text};
 ghost use Rattle.esc_calls.specs.Output.{Copies};
 ghost use Rattle.fallible_alloc.specs.Refusals.{Refused};
 
@@ -29,9 +29,10 @@ pub fn normal_begin(alloc: Global, normaliser: &mut InChunks, limit: usize) -> u
 pub fn normal_feed(alloc: Global, normaliser: &mut InChunks, bytes: &[u8]) -> u32
     ensures taken { (limit : ℕ) (s : List ℕ) → NormaliserHasConsumed limit s normaliser.old
         → result ≡ DONE
-        → Takes (NormaliserHasConsumed limit) (formed limit) s bytes.now normaliser.new }
+        → Takes (NormaliserHasConsumed limit) (normal_text limit) s bytes.now normaliser.new }
     ensures memory { (limit : ℕ) (s : List ℕ) → NormaliserHasConsumed limit s normaliser.old
-        → result ≢ DONE → (result ≡ NO_MEMORY) × Breaks (formed limit) s bytes.now normaliser.new
+        → result ≢ DONE → (result ≡ NO_MEMORY)
+        × Breaks (normal_text limit) s bytes.now normaliser.new
         × Refused Global }
     ensures refused { result ≢ DONE → (result ≢ NO_MEMORY → result ≡ NOT_BEGUN)
         × IsEnded normaliser.new }

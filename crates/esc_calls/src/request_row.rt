@@ -1,6 +1,6 @@
 //! The requests of a stream to a terminal, for C.
 ghost use Rattle.std.specs.Prelude.{◌≡◌, map};
-ghost use Rattle.esc_calls.specs.CellRows.{asked, request_row};
+ghost use Rattle.esc_calls.specs.CellRows.{mode_request, request_row};
 ghost use Rattle.esc_calls.specs.Output.{Puts, put_into};
 
 use esc_terminal::Request;
@@ -36,7 +36,7 @@ impl RequestRow {
 }
 
 fn asked(kind: u32, mode: u32) -> RequestRow
-    ensures { result ≡ asked kind mode }
+    ensures { result ≡ mode_request kind mode }
 {
     RequestRow { kind, mode }
 }

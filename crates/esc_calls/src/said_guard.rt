@@ -1,7 +1,7 @@
 //! The way for characters and carriage returns that hide or reorder text, by the options of a
 //! sanitizer.
 ghost use Rattle.std.specs.Prelude.{◌≡◌, IfErr, IfOk};
-ghost use Rattle.esc_calls.specs.SanitizerOptions.{IsFault, SaysGuard, framed};
+ghost use Rattle.esc_calls.specs.SanitizerOptions.{IsFault, SaysGuard, stream_returns};
 
 use crate::fault::Fault;
 use crate::said::{characters_of, returns_of};
@@ -32,7 +32,7 @@ pub(crate) fn guard_said(
 
 // Returns the way in which carriage returns are written by lines, or in a stream that is one.
 fn framed(returns: Returns, by_lines: bool) -> Returns
-    ensures { result ≡ framed returns by_lines }
+    ensures { result ≡ stream_returns returns by_lines }
 {
     if by_lines { returns } else { Returns::Keep }
 }

@@ -4,7 +4,7 @@ use Rattle.std.proofs.lemmas.List.{append_assoc}
 use Rattle.std.proofs.lemmas.Str.{encodes-append}
 use Rattle.std.specs.Str.{encode_utf8_all}
 use Rattle.esc_decode.specs.declared.utf16.Utf16.{Utf16}
-use Rattle.esc_decode.specs.Units.{unit_text, after, unit_utf8, given_after, left, left_after, odd_after, unit, units_after}
+use Rattle.esc_decode.specs.Units.{unit_text, after, unit_utf8, given_after, unit_left, left_after, odd_after, unit, units_after}
 
 pub units_append : (little : Bool) (odd : Option ℕ) (s t : List ℕ)
     → units_after little odd (s ++ t)
@@ -24,14 +24,14 @@ pub given_append : (h : Option ℕ) (us vs : List ℕ)
     → given_after h (us ++ vs) ≡ given_after h us ++ given_after (left_after h us) vs
 given_append h [] vs = refl
 given_append h (u ∷ us) vs =
-    ap (λ x. unit_utf8 h u ++ x) (given_append (left h u) us vs)
-    ∙ sym (append_assoc (unit_utf8 h u) (given_after (left h u) us)
-    (given_after (left_after (left h u) us) vs))
+    ap (λ x. unit_utf8 h u ++ x) (given_append (unit_left h u) us vs)
+    ∙ sym (append_assoc (unit_utf8 h u) (given_after (unit_left h u) us)
+    (given_after (left_after (unit_left h u) us) vs))
 
 pub left_append : (h : Option ℕ) (us vs : List ℕ)
     → left_after h (us ++ vs) ≡ left_after (left_after h us) vs
 left_append h [] vs = refl
-left_append h (u ∷ us) vs = left_append (left h u) us vs
+left_append h (u ∷ us) vs = left_append (unit_left h u) us vs
 
 -- ---- in chunks
 

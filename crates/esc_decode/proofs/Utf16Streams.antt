@@ -4,7 +4,7 @@ use Rattle.std.proofs.lemmas.Str.{encodes-append}
 use Rattle.std.specs.Str.{encode_utf8_all}
 use Rattle.esc_decode.proofs.Units.{added_append, after_append}
 use Rattle.esc_decode.specs.Units.{after, characters, cut_short, fresh_units, left_after, mark_of, odd_after, unit_text, units_after}
-use Rattle.esc_decode.specs.Utf16Streams.{DecodesMore, LeavesUnits, awaits_mark, decoder_by, decoder_of, going_text, may_begin_mark, ordered, ordered_by, ordered_by_mark, text_by, whole_text}
+use Rattle.esc_decode.specs.Utf16Streams.{DecodesMore, LeavesUnits, awaits_mark, decoder_by, decoder_of, going_text, may_begin_mark, by_order, ordered_by, ordered_by_mark, text_by, whole_text}
 use Rattle.esc_decode.specs.declared.byte_order.ByteOrder.{ByteOrder}
 use Rattle.esc_decode.specs.declared.byte_order.ByteOrder.TheVariants.{Little, Big, Marked}
 use Rattle.esc_decode.specs.declared.utf16_decoder.Utf16Decoder.{Utf16Decoder}
@@ -26,7 +26,7 @@ mark_more (x ∷ y ∷ s) b h = (refl, by_more (mark_of x y) (x ∷ y ∷ s) s b
 
 ordered_more : (k : ByteOrder) (s b : List ℕ) → awaits_mark k s ≡ false
     → (awaits_mark k (s ++ b) ≡ false)
-    × (ordered k (s ++ b) ≡ ((ordered k s).0, (ordered k s).1 ++ b))
+    × (by_order k (s ++ b) ≡ ((by_order k s).0, (by_order k s).1 ++ b))
 ordered_more Little s b h = (refl, refl)
 ordered_more Big s b h = (refl, refl)
 ordered_more Marked s b h = mark_more s b h
@@ -34,8 +34,8 @@ ordered_more Marked s b h = mark_more s b h
 pub no_mark : (k : ByteOrder) (s b : List ℕ) (d : Utf16Decoder) → d ≡ decoder_of k s
     → d.awaits_mark ≡ false → LeavesUnits k s b b d
 no_mark k s b d e w =
-    let u = fresh_units (ordered k s).0 in
-    let r = (ordered k s).1 in
+    let u = fresh_units (by_order k s).0 in
+    let r = (by_order k s).1 in
     let is = ordered_more k s b (sym (ap (λ v. v.awaits_mark) e) ∙ w) in
     record {
       awaits = w ∙ sym is.0;
@@ -68,7 +68,7 @@ pub pushed : (k : ByteOrder) (s b rest : List ℕ) (d : Utf16Decoder) → Leaves
     (record { units = after d.units rest; awaits_mark = d.awaits_mark })
 pushed k s b rest d l = record {
   state = ap (λ u. record { units = u; awaits_mark = d.awaits_mark }) l.state
-      ∙ ap (λ w. decoder_by w (ordered k (s ++ b))) l.awaits;
+      ∙ ap (λ w. decoder_by w (by_order k (s ++ b))) l.awaits;
   text = l.text;
 }
 
@@ -76,7 +76,7 @@ pub ended : (k : ByteOrder) (s : List ℕ) (d : Utf16Decoder) → d ≡ decoder_
     → whole_text k s
     ≡ going_text k s ++ encode_utf8_all (cut_short d.units.odd d.units.high)
 ended k s d e =
-    let o = ordered k s in
+    let o = by_order k s in
     encodes-append (characters o.0 o.1)
     (cut_short (odd_after None o.1) (left_after None (units_after o.0 None o.1)))
     ∙ ap (λ v. going_text k s ++ encode_utf8_all (cut_short v.units.odd v.units.high)) (sym e)

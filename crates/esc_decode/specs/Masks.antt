@@ -15,14 +15,14 @@ is_raw b = is_from 0x80 0x9f b
 
 -- A byte that goes on no character: FF, which is in no character and no control, in place of a
 -- control.
-abbrev pub lone : ℕ → ℕ
-lone b = if is_raw b then 0xff else b
+abbrev pub lone_mask : ℕ → ℕ
+lone_mask b = if is_raw b then 0xff else b
 
 -- the byte that a byte becomes, by its outcome after the begun bytes: a part of a character stays
 abbrev pub masked_byte : ℕ → Outcome → ℕ
 masked_byte b Whole = b
 masked_byte b More = b
-masked_byte b Broken = lone b
+masked_byte b Broken = lone_mask b
 
 -- The begun bytes after a byte: the first bytes of a well-formed character.
 abbrev pub first_begun : ℕ → List ℕ

@@ -47,18 +47,18 @@ unit_utf8 (Some h) u = if is_low u then pair h u ∷ [] else 0xfffd ∷ given_al
 abbrev pub left_alone : ℕ → Option ℕ
 left_alone u = if is_high u then Some u else None
 
-abbrev pub left : Option ℕ → ℕ → Option ℕ
-left None u = left_alone u
-left (Some h) u = if is_low u then None else left_alone u
+abbrev pub unit_left : Option ℕ → ℕ → Option ℕ
+unit_left None u = left_alone u
+unit_left (Some h) u = if is_low u then None else left_alone u
 
 -- the same for units, one after another
 abbrev pub given_after : Option ℕ → List ℕ → List ℕ
 given_after h [] = []
-given_after h (u ∷ us) = unit_utf8 h u ++ given_after (left h u) us
+given_after h (u ∷ us) = unit_utf8 h u ++ given_after (unit_left h u) us
 
 abbrev pub left_after : Option ℕ → List ℕ → Option ℕ
 left_after h [] = h
-left_after h (u ∷ us) = left_after (left h u) us
+left_after h (u ∷ us) = left_after (unit_left h u) us
 
 -- an unfinished unit or pair at the end of a stream is one U+FFFD
 abbrev pub cut_short : Option ℕ → Option ℕ → List ℕ

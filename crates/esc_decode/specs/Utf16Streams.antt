@@ -22,10 +22,10 @@ ordered_by_mark [] = (true, [])
 ordered_by_mark (a ∷ []) = (true, a ∷ [])
 ordered_by_mark (a ∷ b ∷ s) = ordered_by (mark_of a b) (a ∷ b ∷ s) s
 
-abbrev pub ordered : ByteOrder → List ℕ → Ordered
-ordered Little s = (true, s)
-ordered Big s = (false, s)
-ordered Marked s = ordered_by_mark s
+abbrev pub by_order : ByteOrder → List ℕ → Ordered
+by_order Little s = (true, s)
+by_order Big s = (false, s)
+by_order Marked s = ordered_by_mark s
 
 -- ---- the text
 
@@ -34,14 +34,14 @@ abbrev pub text_by : Ordered → List ℕ
 text_by o = utf16_text o.0 o.1
 
 abbrev pub going_text : ByteOrder → List ℕ → List ℕ
-going_text k s = text_by (ordered k s)
+going_text k s = text_by (by_order k s)
 
 -- of one that has ended
 abbrev pub whole_text_by : Ordered → List ℕ
 whole_text_by o = encode_utf8_all (all_characters o.0 o.1)
 
 abbrev pub whole_text : ByteOrder → List ℕ → List ℕ
-whole_text k s = whole_text_by (ordered k s)
+whole_text k s = whole_text_by (by_order k s)
 
 -- ---- in chunks
 
@@ -61,7 +61,7 @@ abbrev pub decoder_by : Bool → Ordered → Utf16Decoder
 decoder_by awaits o = record { units = after (fresh_units o.0) o.1; awaits_mark = awaits }
 
 abbrev pub decoder_of : ByteOrder → List ℕ → Utf16Decoder
-decoder_of k s = decoder_by (awaits_mark k s) (ordered k s)
+decoder_of k s = decoder_by (awaits_mark k s) (by_order k s)
 
 -- the decoder has taken b after s, and t is the text that b adds
 pub record DecodesMore (k : ByteOrder) (s b t : List ℕ) (d : Utf16Decoder) : Type 0 where

@@ -2,7 +2,7 @@
 ghost use Rattle.std.specs.Prelude.{◌≡◌, ◌++◌, ◌∷◌, ℕ, List, []};
 ghost use Rattle.esc_frame.specs.Machine.Prefixes.{prefix_of};
 ghost use Rattle.esc_frame.specs.Sequences.{is_prefix, outcome};
-ghost use Rattle.esc_decode.specs.Masks.{HasConsumed, first_begun, lone, masked_bytes, masked_byte, next_begun};
+ghost use Rattle.esc_decode.specs.Masks.{HasConsumed, first_begun, lone_mask, masked_bytes, masked_byte, next_begun};
 
 use crate::runs::mask_all;
 use esc_frame::utf8::sequence::{Outcome, Pending, lies_from};
@@ -79,7 +79,7 @@ fn first(byte: u8) -> Pending
 // The byte that such a byte becomes.
 #[inline(always)]
 fn lone(byte: u8) -> u8
-    ensures { result ≡ lone byte }
+    ensures { result ≡ lone_mask byte }
 {
     if lies_from(0x80, 0x9f, byte) {
         0xff

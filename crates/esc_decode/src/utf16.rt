@@ -2,7 +2,7 @@
 ghost use Rattle.std.specs.Prelude.{◌≡◌, ◌++◌, ◌∷◌, [], OnErr, OnOk, string_bytes, encode_utf8, true};
 ghost use Rattle.std.specs.Str.{encode_utf8_all};
 ghost use Rattle.fallible_alloc.specs.Refusals.{Refused};
-ghost use Rattle.esc_decode.specs.Units.{unit_text, after, fresh_units, cut_short, unit_utf8, given_alone, is_high, is_low, left, left_alone, pair, unit};
+ghost use Rattle.esc_decode.specs.Units.{unit_text, after, fresh_units, cut_short, unit_utf8, given_alone, is_high, is_low, unit_left, left_alone, pair, unit};
 ghost use lib.Utf8.{scalar};
 
 use std::alloc::{AllocError, Allocator};
@@ -118,7 +118,7 @@ fn pair(high: u16, low: u16) -> u32
 
 // The first one of a pair that is left after a unit, if this has come before it.
 fn left(high: Option<u16>, unit: u16) -> Option<u16>
-    ensures { result ≡ left high unit }
+    ensures { result ≡ unit_left high unit }
 {
     match high {
         None => left_alone(unit),

@@ -8,7 +8,7 @@ use Rattle.std.proofs.lemmas.Fmt.{decimal_nonempty}
 use Rattle.std.proofs.lemmas.List.{append_cancel_left}
 use Rattle.std.proofs.lemmas.List.Folds.{list_all-append, flat_map-map}
 use Rattle.std.proofs.lemmas.List.Sums.{take_while-cons}
-use Rattle.esc_values.specs.Clear.{AreClearParts, joined}
+use Rattle.esc_values.specs.Clear.{AreClearParts, semicolon_list}
 use Rattle.esc_values.specs.Params.{is_private_prefix, is_intermediate_byte, after_private_prefix, drop_while, capped_at_i64, value_after}
 use Rattle.esc_values.proofs.Numerals.{decimal_part, decimal_passes}
 use Rattle.esc_values.proofs.Split.{parts_text}
@@ -153,7 +153,7 @@ numbers_back (pos n ∷ ps) h =
     ∙ ap (λ r. pos n ∷ r) (numbers_back ps h.1)
 numbers_back (negsuc n ∷ ps) h = absurd h.0
 
-params_joined : (ps : List ℤ) → params_text ps ≡ joined (map signed_decimal ps)
+params_joined : (ps : List ℤ) → params_text ps ≡ semicolon_list (map signed_decimal ps)
 params_joined [] = refl
 params_joined (p ∷ ps) =
     ap (λ x. signed_decimal p ++ x) (sym (flat_map-map (λ q. 0x3b ∷ q) signed_decimal ps))

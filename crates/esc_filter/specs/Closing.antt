@@ -21,7 +21,7 @@ use Rattle.esc_write.specs.declared.short_numbers.ShortNumbers.TheVariants as sh
 use Rattle.esc_pen.specs.declared.pen.Pen.{Pen}
 use Rattle.esc_filter.specs.Addresses.{address_in, is_address}
 use Rattle.esc_filter.specs.Pens.{pen_after_final, pen_after_sequence, pen_selected}
-use Rattle.esc_filter.specs.Terminal.{after_named, after_named_escape, is_changed_saved, nothing_saved, unchanged}
+use Rattle.esc_filter.specs.Terminal.{after_named, after_named_escape, is_changed_saved, nothing_saved, as_at_start}
 use Rattle.esc_filter.specs.declared.terminal.Screen.{Screen}
 use Rattle.esc_filter.specs.declared.terminal.Screen.TheVariants as screen
 use Rattle.esc_filter.specs.declared.terminal.Terminal.{Terminal}
@@ -206,7 +206,7 @@ keeps_cursor admits = admits (escape None 0x37) && admits (escape None 0x38)
 
 -- the values that undo the changes of these values, for a policy that admits the values of `admits`
 abbrev pub closing : {A : Type 0} → (Value A → Bool) → List (Value A) → List (Value A)
-closing admits vs = given_back (keeps_cursor admits) (after_values vs unchanged)
+closing admits vs = given_back (keeps_cursor admits) (after_values vs as_at_start)
 
 -- values, and those that undo the changes that they leave
 abbrev pub closed_values : {A : Type 0} → (Value A → Bool) → List (Value A) → List (Value A)

@@ -12,7 +12,7 @@ use Rattle.unicode_visibility.specs.Characters.{is_deceiving}
 use Rattle.unicode_visibility.specs.Following.{has_stray}
 use Rattle.esc_filter.specs.Characters.{in_guard, last_after}
 use Rattle.esc_filter.specs.Closing.{after_values}
-use Rattle.esc_filter.specs.Terminal.{unchanged}
+use Rattle.esc_filter.specs.Terminal.{as_at_start}
 use Rattle.esc_filter.specs.Pens.{pen_after, start_pen}
 use Rattle.esc_filter.specs.Passing.{is_line_feed}
 use Rattle.esc_filter.specs.Rules.{is_link, is_plain_param}
@@ -53,7 +53,7 @@ WriteDenies p a q = Denies p.spell a q.spell
 -- it wrote these values, by lines or not; u says how characters that deceive are written
 abbrev pub HasNoted : {A : Type 0} → Bool → Guard → List (Value A) → Written A → Type 0
 HasNoted b u vs w = (w.spell.follows_string ≡ ends_in_string false vs)
-    × (w.left ≡ after_values vs unchanged) × (w.by_lines ≡ b) × (w.guard ≡ u)
+    × (w.left ≡ after_values vs as_at_start) × (w.by_lines ≡ b) × (w.guard ≡ u)
     × (w.before ≡ last_after None vs) × (w.pen ≡ pen_after vs (start_pen b))
 
 -- ---- sequences and commands that are written from their parameters or their text

@@ -5,7 +5,7 @@ use Rattle.esc_actions.specs.Values.{Value}
 use Rattle.esc_filter.specs.Closing.{after_values, joined_lists}
 use Rattle.esc_filter.specs.Known.{ArePassedRenditions, IsPassedText}
 use Rattle.esc_filter.specs.Lines.{IsLine, closed_by_lines_as, content, ends_line, is_line_feed, lines, passed_of_content, text_by_lines_as}
-use Rattle.esc_filter.specs.Terminal.{unchanged}
+use Rattle.esc_filter.specs.Terminal.{as_at_start}
 use Rattle.esc_filter.specs.declared.guard.Guard.{Guard}
 use Rattle.esc_filter.specs.declared.terminal.Terminal.{Terminal}
 use Rattle.esc_filter.specs.Pens.{pen_after, start_pen, text_of_pen}
@@ -17,7 +17,7 @@ opening t p = if t.rendition then text_of_pen p else []
 
 -- those that these values leave on
 abbrev pub opening_left : {A : Type 0} → List (Value A) → List ℕ
-opening_left vs = opening (after_values vs unchanged) (pen_after vs (start_pen true))
+opening_left vs = opening (after_values vs as_at_start) (pen_after vs (start_pen true))
 
 -- those that a line with this content leaves on
 abbrev pub opening_of : {A : Type 0} → Guard → ℕ → (Value A → Bool) → List ℕ → List ℕ
@@ -56,18 +56,18 @@ resumed_from k u limit admits d [] = d
 resumed_from k u limit admits d (b ∷ s) =
     resumed_from k u limit admits (d ++ (opening_before k u limit admits d b ++ b ∷ [])) s
 
-abbrev pub resumed : {A : Type 0} → Bool → Guard → ℕ → (Value A → Bool) → List ℕ → List ℕ
-resumed k u limit admits s = resumed_from k u limit admits [] s
+abbrev pub resumed_stream : {A : Type 0} → Bool → Guard → ℕ → (Value A → Bool) → List ℕ → List ℕ
+resumed_stream k u limit admits s = resumed_from k u limit admits [] s
 
 -- The text that is written for a stream whose lines are streams of their own, and begin with the
 -- renditions that go on; and for one that has ended.
 abbrev pub resumed_text : {A : Type 0} → Bool → Guard → ℕ → (Value A → Bool) → List ℕ → List ℕ
 resumed_text {A} k u limit admits s =
-    text_by_lines_as {A = A} u limit admits (resumed k u limit admits s)
+    text_by_lines_as {A = A} u limit admits (resumed_stream k u limit admits s)
 
 abbrev pub resumed_closed : {A : Type 0} → Bool → Guard → ℕ → (Value A → Bool) → List ℕ → List ℕ
 resumed_closed {A} k u limit admits s =
-    closed_by_lines_as {A = A} u limit admits (resumed k u limit admits s)
+    closed_by_lines_as {A = A} u limit admits (resumed_stream k u limit admits s)
 
 -- holds of lines that have ended, none of which leaves renditions on, if none were on before them
 abbrev pub AreQuiet : {A : Type 0} → Guard → ℕ → (Value A → Bool) → List (List ℕ) → Type 0

@@ -2,7 +2,7 @@
 use Rattle.std.specs.Prelude.{ℕ, ◌≡◌, ◌<◌, Bool, true, false, not, if◌then◌else◌, List, [], ◌++◌, length, string_bytes}
 use Rattle.esc_actions.specs.Values.{Value}
 use Rattle.esc_filter.specs.Lines.{EndsLine, GrowsBy, HasConsumedLines, added_by as added_by_lines, ends_line, passed_of_line, policy_of_lines}
-use Rattle.esc_filter.specs.Openings.{opening_at, opening_left, resumed, resumed_closed, resumed_from, resumed_text}
+use Rattle.esc_filter.specs.Openings.{opening_at, opening_left, resumed_stream, resumed_closed, resumed_from, resumed_text}
 use Rattle.esc_filter.specs.declared.admit.Admit.{Ghosts as Admitter}
 use Rattle.esc_filter.specs.declared.guard.Guard.{Guard}
 use Rattle.esc_filter.specs.declared.resuming.ResumingFilter.{ResumingFilter}
@@ -20,8 +20,8 @@ pub record IsMarked {P A : Type 0} (k : Bool) (u : Guard) (limit : ℕ) (admits 
 -- filter of lines was fed the stream in which renditions are written again.
 pub record ResumedHasConsumed {P A : Type 0} (k : Bool) (u : Guard) (limit : ℕ)
     (admits : Value A → Bool) (s : List ℕ) (f : ResumingFilter P A) : Type 0 where
-  pub fed : HasConsumedLines u limit admits (resumed k u limit admits s) f.lines
-  pub marks : IsMarked k u limit admits (resumed k u limit admits s) f
+  pub fed : HasConsumedLines u limit admits (resumed_stream k u limit admits s) f.lines
+  pub marks : IsMarked k u limit admits (resumed_stream k u limit admits s) f
 
 -- the text that the bytes fed last added
 abbrev pub added_by : {P A : Type 0} → ResumingFilter P A → List ℕ

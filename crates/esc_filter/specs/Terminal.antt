@@ -34,8 +34,8 @@ no_modes = record {
   held = false;
 }
 
-abbrev pub unchanged : Terminal
-unchanged = record {
+abbrev pub as_at_start : Terminal
+as_at_start = record {
   rendition = false;
   link = false;
   insert = false;

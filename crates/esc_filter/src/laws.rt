@@ -8,7 +8,7 @@ ghost use Rattle.esc_actions.specs.Values.{Value};
 ghost use Rattle.esc_frame.specs.Segments.{is_empty};
 ghost use Rattle.esc_filter.specs.Characters.{in_values, keeps_characters, some_strays};
 ghost use Rattle.esc_filter.specs.Closing.{IsAtStart, after_values, closed_values, closing};
-ghost use Rattle.esc_filter.specs.Terminal.{unchanged};
+ghost use Rattle.esc_filter.specs.Terminal.{as_at_start};
 ghost use Rattle.esc_filter.specs.Lines.{IsFilteredByLines, IsFilteredByLinesAs, IsLine, closed_by_lines_as, has_line_feed, line_text, lines, lines_text, lines_text_as, text_by_lines_as};
 ghost use Rattle.esc_sequences.specs.Csis.{CsiValue};
 ghost use Rattle.esc_sequences.specs.declared.esc.Esc.{Esc};
@@ -85,7 +85,7 @@ pub fn closing_comes_last<A: Allocator>()
 /// values and the policy are.
 pub fn terminal_as_at_the_start<A: Allocator>()
     ensures { (admits : Value A → Bool) (vs : List (Value A))
-        → IsAtStart (after_values (closed_values admits vs) unchanged) }
+        → IsAtStart (after_values (closed_values admits vs) as_at_start) }
 {}
 
 /// The values that undo the changes leave nothing to undo.

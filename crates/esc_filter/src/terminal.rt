@@ -1,6 +1,6 @@
 //! A terminal, as far as the actions that pass leave it changed.
 ghost use Rattle.std.specs.Prelude.{◌≡◌};
-ghost use Rattle.esc_filter.specs.Terminal.{after_change, after_function, after_mode, after_named, after_param, after_params, after_private, mode_restored, are_changed_sets, cursor_kept, is_changed, is_changed_mode, is_changed_saved, is_main, kept_mode, with_renditions, restore, restored_terminal, save, saved_of, screen_shown, unchanged, was_set, with_cursor};
+ghost use Rattle.esc_filter.specs.Terminal.{after_change, after_function, after_mode, after_named, after_param, after_params, after_private, mode_restored, are_changed_sets, cursor_kept, is_changed, is_changed_mode, is_changed_saved, is_main, kept_mode, with_renditions, restore, restored_terminal, save, saved_of, screen_shown, as_at_start, was_set, with_cursor};
 
 use crate::kept_modes::Modes;
 use crate::saved::{Saved, Sets};
@@ -79,7 +79,7 @@ impl Screen {
 impl Terminal {
     /// Returns a terminal as at the start.
     pub fn unchanged() -> Terminal
-        ensures { result ≡ unchanged }
+        ensures { result ≡ as_at_start }
     {
         Terminal {
             rendition: false,

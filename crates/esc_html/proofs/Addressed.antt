@@ -32,7 +32,7 @@ use Rattle.esc_osc_values.specs.Selections.{selection, selection_of}
 use Rattle.esc_osc_values.specs.declared.dynamic_color_number.DynamicColorNumber.{DynamicColorNumber}
 use Rattle.esc_osc_values.specs.declared.progress.Progress.{Progress}
 use Rattle.esc_values.proofs.Split.{joined_parts}
-use Rattle.esc_values.specs.Clear.{joined, parts_of}
+use Rattle.esc_values.specs.Clear.{semicolon_list, parts_of}
 use Rattle.esc_values.specs.Cuts.{Pairs}
 use Rattle.esc_values.specs.Scalars.{and_then, utf8_of}
 
@@ -54,7 +54,7 @@ capped_most n = omega arith
 
 -- with `;` between them
 abbrev pub parts_size : List (List ℕ) → ℕ
-parts_size ps = value_size (joined ps)
+parts_size ps = value_size (semicolon_list ps)
 
 pub parts_within : (t : List ℕ) → parts_size (parts_of t) ≤ value_size t
 parts_within t = omega (arith, ap value_size (joined_parts t))
@@ -65,8 +65,8 @@ fewer_parts p [] = omega arith
 fewer_parts p (q ∷ ps) =
     omega (
       arith,
-      value_added p (0x3b ∷ joined (q ∷ ps)),
-      value_added (0x3b ∷ []) (joined (q ∷ ps)),
+      value_added p (0x3b ∷ semicolon_list (q ∷ ps)),
+      value_added (0x3b ∷ []) (semicolon_list (q ∷ ps)),
     )
 
 last_part : (p q : List ℕ) → value_size q ≤ parts_size (p ∷ q ∷ [])
@@ -115,8 +115,8 @@ in_parts_size [] = omega arith
 in_parts_size (u ∷ us) = by (is_safe_in_parts (u ∷ us)) refl
   where
     by : (b : Bool) → is_safe_in_parts (u ∷ us) ≡ b
-        → address_size (address_if b (joined (u ∷ us))) ≤ capped (parts_size (u ∷ us))
-    by true h = page_address_size (joined (u ∷ us)) (page_in_parts (u ∷ us) h)
+        → address_size (address_if b (semicolon_list (u ∷ us))) ≤ capped (parts_size (u ∷ us))
+    by true h = page_address_size (semicolon_list (u ∷ us)) (page_in_parts (u ∷ us) h)
     by false h = omega arith
 
 -- the address of the command that there may be is no longer than n

@@ -4,7 +4,7 @@ use Rattle.std.proofs.lemmas.Grind.{flat_map-append}
 use Rattle.std.proofs.lemmas.List.{append-nil}
 use Rattle.esc_html.specs.Attributes.{begun_classes, begun_styles, is_empty, next_class, next_style}
 use Rattle.esc_html.specs.Names.{more_span_names, span_name}
-use Rattle.esc_style.specs.Looks.{present}
+use Rattle.esc_style.specs.Looks.{values_of}
 use Rattle.esc_html.specs.PageParts.{attribute_text, attributes_text}
 use Rattle.esc_style.specs.Styles.{style_text, styles_text}
 use Rattle.esc_style.specs.declared.class.Class.{Class}
@@ -17,7 +17,7 @@ one None = []
 one (Some x) = x ∷ []
 
 put_first : {X : Type 0} (o : Option X) (xs : List (Option X))
-    → present (o ∷ xs) ≡ one o ++ present xs
+    → values_of (o ∷ xs) ≡ one o ++ values_of xs
 put_first None xs = refl
 put_first (Some x) xs = refl
 
@@ -25,13 +25,13 @@ more : (n : ℕ) → suc n + 1 ≡ suc (n + 1)
 more n = omega arith
 
 present_next : {X : Type 0} (xs : List (Option X)) (i : ℕ) (d : Option X) → i < length xs
-    → present (take (i + 1) xs) ≡ present (take i xs) ++ one (get_or xs i d)
+    → values_of (take (i + 1) xs) ≡ values_of (take i xs) ++ one (get_or xs i d)
 present_next [] i d l = absurd (omega (arith, l))
 present_next (x ∷ xs) zero d l = put_first x [] ∙ append-nil (one x)
 present_next (x ∷ xs) (suc i) d l =
-    ap (λ k. present (take k (x ∷ xs))) (more i) ∙ put_first x (take (i + 1) xs)
+    ap (λ k. values_of (take k (x ∷ xs))) (more i) ∙ put_first x (take (i + 1) xs)
     ∙ ap (λ y. one x ++ y) (present_next xs i d (omega (arith, l)))
-    ∙ sym (append_assoc (one x) (present (take i xs)) (one (get_or xs i d)))
+    ∙ sym (append_assoc (one x) (values_of (take i xs)) (one (get_or xs i d)))
     ∙ ap (λ y. y ++ one (get_or xs i d)) (sym (put_first x (take i xs)))
 
 absent_next : {X : Type 0} (ps : List X) (o : Option X)
@@ -77,36 +77,36 @@ styles_next (d ∷ ss) (Some s) =
 pub grow_next : {X : Type 0} (f : List X → List ℕ) (g : Bool → Option X → List ℕ)
     → ((ps : List X) (o : Option X) → f (ps ++ one o) ≡ f ps ++ g (is_empty ps) o)
     → (before old new : List ℕ) (first : Bool) (xs : List (Option X)) (i : ℕ) (d : Option X)
-    → i < length xs → old ≡ before ++ f (present (take i xs))
-    → first ≡ is_empty (present (take i xs))
+    → i < length xs → old ≡ before ++ f (values_of (take i xs))
+    → first ≡ is_empty (values_of (take i xs))
     → new ≡ old ++ g first (get_or xs i d)
-    → new ≡ before ++ f (present (take (i + 1) xs))
+    → new ≡ before ++ f (values_of (take (i + 1) xs))
 grow_next f g step before old new first xs i d l h e k =
     k ∙ ap (λ b. old ++ g b (get_or xs i d)) e
-    ∙ ap (λ x. x ++ g (is_empty (present (take i xs))) (get_or xs i d)) h
-    ∙ append_assoc before (f (present (take i xs)))
-    (g (is_empty (present (take i xs))) (get_or xs i d))
+    ∙ ap (λ x. x ++ g (is_empty (values_of (take i xs))) (get_or xs i d)) h
+    ∙ append_assoc before (f (values_of (take i xs)))
+    (g (is_empty (values_of (take i xs))) (get_or xs i d))
     ∙ ap (λ x. before ++ x) (sym (ap f (present_next xs i d l)
-    ∙ step (present (take i xs)) (get_or xs i d)))
+    ∙ step (values_of (take i xs)) (get_or xs i d)))
 
 pub first_next : {X : Type 0} (first next : Bool) (xs : List (Option X)) (i : ℕ) (d : Option X)
-    → i < length xs → first ≡ is_empty (present (take i xs))
-    → next ≡ (first && is_none (get_or xs i d)) → next ≡ is_empty (present (take (i + 1) xs))
+    → i < length xs → first ≡ is_empty (values_of (take i xs))
+    → next ≡ (first && is_none (get_or xs i d)) → next ≡ is_empty (values_of (take (i + 1) xs))
 first_next first next xs i d l e k =
     k ∙ ap (λ b. b && is_none (get_or xs i d)) e
     ∙ sym (ap is_empty (present_next xs i d l)
-    ∙ absent_next (present (take i xs)) (get_or xs i d))
+    ∙ absent_next (values_of (take i xs)) (get_or xs i d))
 
 pub classes_grow : (before old new : List ℕ) (first : Bool) (xs : List (Option Class)) (i : ℕ)
-    (d : Option Class) → i < length xs → old ≡ before ++ begun_classes (present (take i xs))
-    → first ≡ is_empty (present (take i xs)) → new ≡ old ++ next_class first (get_or xs i d)
-    → new ≡ before ++ begun_classes (present (take (i + 1) xs))
+    (d : Option Class) → i < length xs → old ≡ before ++ begun_classes (values_of (take i xs))
+    → first ≡ is_empty (values_of (take i xs)) → new ≡ old ++ next_class first (get_or xs i d)
+    → new ≡ before ++ begun_classes (values_of (take (i + 1) xs))
 classes_grow = grow_next begun_classes next_class classes_next
 
 pub styles_grow : (before old new : List ℕ) (first : Bool) (xs : List (Option Style)) (i : ℕ)
-    (d : Option Style) → i < length xs → old ≡ before ++ begun_styles (present (take i xs))
-    → first ≡ is_empty (present (take i xs)) → new ≡ old ++ next_style first (get_or xs i d)
-    → new ≡ before ++ begun_styles (present (take (i + 1) xs))
+    (d : Option Style) → i < length xs → old ≡ before ++ begun_styles (values_of (take i xs))
+    → first ≡ is_empty (values_of (take i xs)) → new ≡ old ++ next_style first (get_or xs i d)
+    → new ≡ before ++ begun_styles (values_of (take (i + 1) xs))
 styles_grow = grow_next begun_styles next_style styles_next
 
 -- ---- the tag

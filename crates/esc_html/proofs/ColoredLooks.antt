@@ -4,7 +4,7 @@ use Rattle.std.proofs.lemmas.Bool.{true≢false}
 use Rattle.typed_functions.specs.declared.ansi_color.AnsiColor.{AnsiColor}
 use Rattle.esc_html.proofs.PlainLooks.{look}
 use Rattle.esc_html.specs.PageParts.{page_part_text, span}
-use Rattle.esc_html.specs.Plain.{colored, is_colored_alone}
+use Rattle.esc_html.specs.Plain.{color_look, is_colored_alone}
 use Rattle.esc_style.specs.declared.color.Color.{Color}
 use Rattle.esc_style.specs.declared.color.Color.TheVariants.{Default, Named, Palette, Direct}
 use Rattle.esc_style.specs.declared.look.Look.{Look}
@@ -12,7 +12,7 @@ use Rattle.esc_sequences.specs.declared.underline.Underline.{Underline}
 use Rattle.esc_sequences.specs.declared.underline.Underline.TheVariants as underline
 
 abbrev pub IsColored : AnsiColor → Look → Type 0
-IsColored k l = is_colored_alone l ≡ true → l ≡ colored k
+IsColored k l = is_colored_alone l ≡ true → l ≡ color_look k
 
 not_so : {X : Type 0} → false ≡ true → X
 not_so e = absurd (true≢false (sym e))
@@ -61,12 +61,12 @@ is_colored l k f =
 
 pub colored_same : (l : Look) (k : AnsiColor) → l.foreground ≡ Named k
     → is_colored_alone l ≡ true
-    → page_part_text (span false (colored k)) ≡ page_part_text (span false l)
+    → page_part_text (span false (color_look k)) ≡ page_part_text (span false l)
 colored_same l k f e = sym (ap (λ m. page_part_text (span false m)) (is_colored l k f e))
 
 pub colored_some : {T : Type 0} (r : Option T) (text : T → List ℕ) (b : Bool) (l : Look)
     (k : AnsiColor) → l.foreground ≡ Named k → b ≡ is_colored_alone l
-    → IfSome r (λ t. (b ≡ true) × (text t ≡ page_part_text (span false (colored k))))
+    → IfSome r (λ t. (b ≡ true) × (text t ≡ page_part_text (span false (color_look k))))
     → IfSome r (λ t. text t ≡ page_part_text (span false l))
 colored_some None text b l k f e h = tt
 colored_some (Some t) text b l k f e h = h.1 ∙ colored_same l k f (sym e ∙ h.0)

@@ -24,7 +24,7 @@ use Rattle.esc_values.specs.declared.csi_param.CsiParam.TheVariants.{Integer, P}
 use Rattle.fallible_alloc.specs.Refusals.{Refused}
 use Rattle.typed_functions.specs.Functions.{known_entries}
 use Rattle.esc_values.specs.Scalars.{and_then}
-use Rattle.typed_functions.specs.Numbers.{numbered}
+use Rattle.typed_functions.specs.Numbers.{number_rendition}
 use Rattle.typed_functions.specs.Renditions.{number, rendition_of, with_more}
 use Rattle.typed_functions.specs.Selections.{selections}
 use Rattle.typed_functions.specs.declared.rendition.Rendition.{Rendition}
@@ -78,7 +78,7 @@ pub asks_alone : (n : ℤ) (r : Rendition) → rendition_of (Integer n ∷ []) �
 asks_alone n r e = by_sgr n r e (sgr_at n) refl
 
 pub asks_common : (es : List CsiParam) (o : Option Common) (n : ℕ) → lone_byte es ≡ Some n
-    → IfSome o (λ k. numbered n ≡ Some (rendition_by k))
+    → IfSome o (λ k. number_rendition n ≡ Some (rendition_by k))
     → IfSome o (λ k. AsksFor es false 0x6d (rendition_by k))
 asks_common es None n h w = tt
 asks_common [] (Some k) n h w = absurd (none-some n h)

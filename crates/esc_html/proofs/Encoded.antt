@@ -12,13 +12,13 @@ use Rattle.memchr.specs.Find.{is_byte3}
 use Rattle.esc_html.specs.Names.{span_names}
 use Rattle.esc_style.specs.Classes.{index_digits}
 use Rattle.esc_style.specs.Colors.{color_code, is_small}
-use Rattle.esc_style.specs.Looks.{look_classes, look_styles, present}
+use Rattle.esc_style.specs.Looks.{look_classes, look_styles, values_of}
 use Rattle.esc_style.specs.Styles.{styles_text}
 use Rattle.esc_style.specs.declared.class.Class.{Class}
 use Rattle.esc_style.specs.declared.look.Look.{Look}
 use Rattle.esc_style.specs.declared.style.Style.{Style}
 use Rattle.esc_html.specs.Inline.{inline_text}
-use Rattle.esc_html.specs.PageParts.{PagePart, text, span, span_end, link, link_end, encoded, escape, escape_text, escape_value, needs_reference, html_text, page_part_text, reference_text, is_kept, attribute_text, attributes_text, class_attribute, style_attribute}
+use Rattle.esc_html.specs.PageParts.{PagePart, text, span, span_end, link, link_end, utf8_part, escape, escape_text, escape_value, needs_reference, html_text, page_part_text, reference_text, is_kept, attribute_text, attributes_text, class_attribute, style_attribute}
 use Rattle.esc_html.proofs.EscapedRuns.{escape_none, mark_small}
 use Rattle.esc_html.proofs.Reading.{code_plain, digits_plain, inline_plain, is_low, is_name_char, names_plain, styles_plain}
 
@@ -147,12 +147,13 @@ inline_small l =
       quoted_small (inline_text l) (inline_plain l),
     ) refl
 
-page_part_encoded : (p : PagePart) → encode_utf8_all (page_part_text p) ≡ page_part_text (encoded p)
+page_part_encoded : (p : PagePart) → encode_utf8_all (page_part_text p)
+    ≡ page_part_text (utf8_part p)
 page_part_encoded (text t) = escape_all 0x3e t (omega arith)
 page_part_encoded (span true l) = literal (page_part_text (span true l)) (inline_small l)
 page_part_encoded (span false l) =
     literal (page_part_text (span false l))
-    (span_small (present (look_classes l)) (present (look_styles l)))
+    (span_small (values_of (look_classes l)) (values_of (look_styles l)))
 page_part_encoded span_end = literal (codes "</span>") refl
 page_part_encoded (link a) =
     around (codes "<a href=\"") (flat_map escape_value a)
@@ -161,9 +162,9 @@ page_part_encoded (link a) =
 page_part_encoded link_end = literal (codes "</a>") refl
 
 pub page_parts_encoded : (ps : List PagePart) → encode_utf8_all (html_text ps)
-    ≡ html_text (map encoded ps)
+    ≡ html_text (map utf8_part ps)
 page_parts_encoded [] = refl
 page_parts_encoded (p ∷ ps) =
     encodes-append (page_part_text p) (html_text ps)
     ∙ ap (λ x. x ++ encode_utf8_all (html_text ps)) (page_part_encoded p)
-    ∙ ap (λ y. page_part_text (encoded p) ++ y) (page_parts_encoded ps)
+    ∙ ap (λ y. page_part_text (utf8_part p) ++ y) (page_parts_encoded ps)

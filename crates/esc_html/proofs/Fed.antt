@@ -11,7 +11,7 @@ use Rattle.esc_parse.specs.Given.{At, StopsAt}
 use Rattle.esc_html.specs.Bounds.{IsBoundedPagePart}
 use Rattle.esc_html.specs.Fed.{Adds, Takes, HasConsumed, closing_of, state_of, text_of}
 use Rattle.esc_html.specs.Marks.{nothing, step_of}
-use Rattle.esc_html.specs.Pages.{closed, closing_text, first_state, page_text, page_parts_by, page_parts_from, state_by, state_from, state_of_stream}
+use Rattle.esc_html.specs.Pages.{closing_parts, closing_text, first_state, page_text, page_parts_by, page_parts_from, state_by, state_from, state_of_stream}
 use Rattle.esc_html.specs.PageParts.{html_text, page_part_text}
 use Rattle.esc_html.specs.declared.html_writer.HtmlWriter.{HtmlWriter}
 use Rattle.esc_html.specs.declared.layout.Layout.{Layout}
@@ -80,7 +80,7 @@ fed_more {A} limit y s b p q none at same f =
 -- the tags that close those of a writer
 pub closing_same : {A : Type 0} (limit : ℕ) (y : Layout) (s : List ℕ) (w : HtmlWriter A)
     → HasConsumed limit y s w → closing_of w ≡ closing_text A (Some limit) y s
-closing_same limit y s w h = ap (λ g. html_text (closed g)) h.state
+closing_same limit y s w h = ap (λ g. html_text (closing_parts g)) h.state
 
 -- a giver that stops at a value, or by itself, was refused memory
 pub stops_refused : {P V : Type 0} (own why : Type 0) (R Q : P → V → P → Type 0)

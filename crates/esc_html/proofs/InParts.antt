@@ -7,7 +7,7 @@ use Rattle.std.proofs.lemmas.List.{length-append, take-append-le}
 use Rattle.std.proofs.lemmas.List.Folds.{list_all-append}
 use Rattle.std.proofs.lemmas.Str.{IsUtf8-append, IsUtf8-from_ascii, IsUtf8-from_is_utf8, IsUtf8-nil, chars-IsAscii, chars-append, chars-nil, is_utf8-from_IsUtf8}
 use Rattle.std.proofs.lemmas.Str.Ascii.{IsAscii-cons, IsAscii-nil}
-use Rattle.esc_values.specs.Clear.{joined, separated_parts}
+use Rattle.esc_values.specs.Clear.{semicolon_list, separated_parts}
 use Rattle.esc_values.specs.Scalars.{utf8_of}
 use Rattle.esc_html.specs.Addresses.{address_in, has_safe_scheme, has_scheme, is_address_char, is_address_part, is_link_code, is_safe_address, is_safe_in_parts, is_short}
 
@@ -73,24 +73,24 @@ safe_scheme_more u t h =
 -- ---- safe addresses
 
 pub safe_in_parts : (us : List (List ℕ)) → is_safe_in_parts us ≡ true
-    → (is_safe_address (joined us) ≡ true) × IsUtf8 (joined us)
+    → (is_safe_address (semicolon_list us) ≡ true) × IsUtf8 (semicolon_list us)
 safe_in_parts [] h = absurd (true≢false (sym h))
 safe_in_parts (u ∷ us) h =
-    let q = and_parts (is_short (joined (u ∷ us)) && has_safe_scheme u)
+    let q = and_parts (is_short (semicolon_list (u ∷ us)) && has_safe_scheme u)
     (list_all is_address_part (u ∷ us)) h in
-    let f = and_parts (is_short (joined (u ∷ us))) (has_safe_scheme u) q.0 in
+    let f = and_parts (is_short (semicolon_list (u ∷ us))) (has_safe_scheme u) q.0 in
     let p = and_parts (is_address_part u) (list_all is_address_part us) q.1 in
     let t = both_texts u (separated_parts us) (part_text u p.0) (separated_text us p.1) in
     (rw (f.0, safe_scheme_more u (separated_parts us) f.1, t.1) refl, t.0)
 
 -- the rest of the parts of a command, after the first two, is the address
 pub joined_is : (ps : List (List ℕ)) → is_safe_in_parts (address_in ps) ≡ true
-    → utf8_of (joined (drop 1 (remove ps 0))) ≡ Some (joined (address_in ps))
+    → utf8_of (semicolon_list (drop 1 (remove ps 0))) ≡ Some (semicolon_list (address_in ps))
 joined_is [] h = absurd (true≢false (sym h))
 joined_is (p ∷ []) h = absurd (true≢false (sym h))
 joined_is (p ∷ q ∷ us) h = by (is_link_code p) h
   where
     by : (b : Bool) → is_safe_in_parts (if b then us else []) ≡ true
-        → utf8_of (joined us) ≡ Some (joined (if b then us else []))
-    by true k = rw (is_utf8-from_IsUtf8 (joined us) (safe_in_parts us k).1) refl
+        → utf8_of (semicolon_list us) ≡ Some (semicolon_list (if b then us else []))
+    by true k = rw (is_utf8-from_IsUtf8 (semicolon_list us) (safe_in_parts us k).1) refl
     by false k = absurd (true≢false (sym k))

@@ -17,7 +17,7 @@ use Rattle.esc_html.specs.LinedPages.{IsLineTag, IsLinedPage, IsListedInLines, l
 use Rattle.esc_html.specs.Lines.{in_lines, next_number}
 use Rattle.esc_html.specs.Listed.{IsListed, closes, has_open_link}
 use Rattle.esc_html.specs.Marks.{Pen, Step, restyles, redirects, shows, nothing, marked_character, marks, pen_at, pen_by, plain_pen, step_of}
-use Rattle.esc_html.specs.Pages.{closed, closing_text, first_state, page_text, page_parts_of, state_of_stream}
+use Rattle.esc_html.specs.Pages.{closing_parts, closing_text, first_state, page_text, page_parts_of, state_of_stream}
 use Rattle.esc_html.specs.PageParts.{is_kept_page_part, is_unbroken, page_part_text}
 use Rattle.esc_html.specs.Shown.{Element, IsPage, elements, marked_bytes, shown_characters}
 use Rattle.esc_html.specs.Tokens.{Token, character, start_tag, end_tag, stray, tokens}
@@ -249,7 +249,7 @@ pub lined_page_is : {A : Type 0} (limit : Option ℕ) (n : ℕ) (y : Layout) (s 
 lined_page_is {A} limit n y s pl h page =
     let vs = meaning_within {A = A} limit s in
     let first = first_state y.inline in
-    let last = closed (state_of_stream A limit y s) in
+    let last = closing_parts (state_of_stream A limit y s) in
     let ps = page_parts_of A limit y s ++ last in
     let t = page_text A limit y s ++ closing_text A limit y s in
     let same = flat_map-append page_part_text (page_parts_of A limit y s) last in

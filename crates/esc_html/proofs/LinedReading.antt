@@ -14,7 +14,7 @@ use Rattle.esc_html.specs.Lines.{begin_unless, end_if, highest, in_lines, line_b
 use Rattle.esc_html.specs.Names.{span_names}
 use Rattle.esc_html.specs.PageParts.{PagePart, text, span, span_end, link, link_end, attribute_text, attributes_text, class_attribute, escape, escape_text, escape_value, html_text, is_kept, is_kept_page_part, is_unbroken, page_part_text, page_part_tokens, style_attribute, tokens_of}
 use Rattle.esc_html.specs.Tokens.{Tag, Token, character, start_tag, end_tag, stray, data_state, tokens, tokens_from, value}
-use Rattle.esc_style.specs.Looks.{look_classes, look_styles, present}
+use Rattle.esc_style.specs.Looks.{look_classes, look_styles, values_of}
 use Rattle.esc_style.specs.Styles.{styles_text}
 use Rattle.esc_style.specs.declared.class.Class.{Class}
 use Rattle.esc_style.specs.declared.look.Look.{Look}
@@ -330,7 +330,7 @@ page_parts_lined (p ∷ ps) h k n o =
         (inline_stays l) (λ m. rest m true) n o
     page_part_lined (span false l) h k rest n o =
         one_lined (span false l) _ _ _ (html_text ps) (tokens_of ps) refl refl refl refl
-        (span_stays (present (look_classes l)) (present (look_styles l))) (λ m. rest m true) n o
+        (span_stays (values_of (look_classes l)) (values_of (look_styles l))) (λ m. rest m true) n o
     page_part_lined span_end h k rest n o =
         one_lined span_end _ _ _ (html_text ps) (tokens_of ps) refl refl refl refl refl
         (λ m. rest m true) n o

@@ -3,7 +3,7 @@ use Rattle.std.proofs.Common.{◌≡◌, Bool, true, false, not, ◌&&◌, is_no
 use Rattle.std.proofs.lemmas.Bool.{and_parts, true≢false}
 use Rattle.typed_functions.specs.declared.ansi_color.AnsiColor.{AnsiColor}
 use Rattle.esc_html.proofs.PlainLooks.{plain_is, plain_same}
-use Rattle.esc_html.specs.Plain.{has_mark, is_colored, is_colored_alone, is_colorless, is_marked, is_markless, is_named, is_of_kind, is_own, is_single, marked, marking, unmarked}
+use Rattle.esc_html.specs.Plain.{has_mark, is_colored, is_colored_alone, is_colorless, is_marked, is_markless, is_named, is_of_kind, is_own, is_single, mark_look, marking, look_without}
 use Rattle.esc_html.specs.declared.mark.Mark.{Mark}
 use Rattle.esc_html.specs.declared.mark.Mark.TheVariants as mark
 use Rattle.esc_html.specs.declared.page_look.Kind.{Kind}
@@ -123,7 +123,7 @@ single_is underline.Dotted e = not_so e
 single_is underline.Dashed e = not_so e
 
 -- a look with a mark is that without it, with the mark
-again : (m : Mark) (l : Look) → has_mark m l ≡ true → l ≡ look_by (unmarked m l) (marking m)
+again : (m : Mark) (l : Look) → has_mark m l ≡ true → l ≡ look_by (look_without m l) (marking m)
 again mark.Bold l e = ap (λ b. record l { bold = b }) e
 again mark.Faint l e = ap (λ b. record l { faint = b }) e
 again mark.Italic l e = ap (λ b. record l { italic = b }) e
@@ -131,20 +131,20 @@ again mark.Underlined l e = ap (λ u. record l { underline = u }) (single_is l.u
 again mark.Inverse l e = ap (λ b. record l { inverse = b }) e
 again mark.Strikethrough l e = ap (λ b. record l { strikethrough = b }) e
 
-marked_is : (m : Mark) (l : Look) → is_marked m l ≡ true → l ≡ marked m
+marked_is : (m : Mark) (l : Look) → is_marked m l ≡ true → l ≡ mark_look m
 marked_is m l e =
-    let k = and_parts (has_mark m l) (is_plain (unmarked m l)) e in
-    again m l k.0 ∙ ap (λ x. look_by x (marking m)) (plain_is (unmarked m l) k.1)
+    let k = and_parts (has_mark m l) (is_plain (look_without m l)) e in
+    again m l k.0 ∙ ap (λ x. look_by x (marking m)) (plain_is (look_without m l) k.1)
 
 pub kind_marked : (k : Kind) (m : Mark) (l : Look) → is_of_kind k l ≡ true → k ≡ kind.Marked m
-    → l ≡ marked m
+    → l ≡ mark_look m
 kind_marked k m l h e = marked_is m l (subst (λ j. is_of_kind j l ≡ true) e h)
 
 pub kind_marked_seen : (k : Kind) (m : Mark) (l : Look) → is_of_kind k l ≡ true
     → k ≡ kind.Marked m → is_plain l ≡ false
 kind_marked_seen k m l h e = ap is_plain (kind_marked k m l h e) ∙ marked_is_seen m plain_look
 
-marked_alone : (m : Mark) → is_marked m (marked m) ≡ true
+marked_alone : (m : Mark) → is_marked m (mark_look m) ≡ true
 marked_alone mark.Bold = refl
 marked_alone mark.Faint = refl
 marked_alone mark.Italic = refl

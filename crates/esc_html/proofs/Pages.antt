@@ -6,7 +6,7 @@ use Rattle.std.proofs.lemmas.Grind.{flat_map-append}
 use Rattle.esc_actions.specs.Values.{Value}
 use Rattle.esc_style.specs.Looks.{is_plain}
 use Rattle.esc_html.specs.Marks.{Pen, Step, restyles, redirects, shows, nothing, ends_line, marked_character, marks, pen_after, pen_at, pen_by, step_of, with_look}
-use Rattle.esc_html.specs.Pages.{State, after_character, before_character, closed, closing, link_end_if, link_opening, opening, page_parts_by, page_parts_from, span_closing, span_end_unless, span_unless, state_by, state_from, without_span}
+use Rattle.esc_html.specs.Pages.{State, after_character, before_character, closing_parts, closing, link_end_if, link_opening, opening, page_parts_by, page_parts_from, span_closing, span_end_unless, span_unless, state_by, state_from, without_span}
 use Rattle.esc_html.specs.PageParts.{Open as OpenTag, PagePart, nests, open_link, open_span, page_part_tokens, text, tokens_of}
 use Rattle.esc_html.specs.Shown.{Element, elements, link_elements, marked_bytes, shown_characters, span_elements_unless}
 use Rattle.esc_html.specs.Tokens.{Token, character}
@@ -127,13 +127,13 @@ nests_step pl g (shows c) ps =
 nests_step pl g nothing ps = refl
 
 pub pages_nest : {A : Type 0} (pl : Bool) (g : State) (vs : List (Value A))
-    → nests (nesting g) (page_parts_from pl g vs ++ closed (state_from pl g vs)) ≡ true
+    → nests (nesting g) (page_parts_from pl g vs ++ closing_parts (state_from pl g vs)) ≡ true
 pages_nest pl g [] =
-    ap (nests (nesting g)) (sym (append-nil (closed g))) ∙ nests_closed g.tags g.pen []
+    ap (nests (nesting g)) (sym (append-nil (closing_parts g))) ∙ nests_closed g.tags g.pen []
 pages_nest pl g (v ∷ vs) =
     let s = step_of g.pen v in
     let rest = page_parts_from pl (state_by pl g s) vs in
-    let last = closed (state_from pl (state_by pl g s) vs) in
+    let last = closing_parts (state_from pl (state_by pl g s) vs) in
     ap (nests (nesting g)) (append_assoc (page_parts_by pl g s) rest last)
     ∙ nests_step pl g s (rest ++ last) ∙ pages_nest pl (state_by pl g s) vs
 
@@ -257,15 +257,15 @@ pen_same pl g nothing = refl
 
 pub pages_show : {A : Type 0} (pl : Bool) (g : State) (vs : List (Value A))
     → shown_characters (elements_at g)
-    (tokens_of (page_parts_from pl g vs ++ closed (state_from pl g vs)))
+    (tokens_of (page_parts_from pl g vs ++ closing_parts (state_from pl g vs)))
     ≡ flat_map marked_bytes (marks pl g.pen vs)
 pages_show pl g [] =
-    ap (shown_characters (elements_at g)) (sym (append-nil (tokens_of (closed g))))
+    ap (shown_characters (elements_at g)) (sym (append-nil (tokens_of (closing_parts g))))
     ∙ shown_closed g.tags g.pen []
 pages_show pl g (v ∷ vs) =
     let s = step_of g.pen v in
     let rest = page_parts_from pl (state_by pl g s) vs in
-    let last = closed (state_from pl (state_by pl g s) vs) in
+    let last = closing_parts (state_from pl (state_by pl g s) vs) in
     ap (λ ps. shown_characters (elements_at g) (tokens_of ps))
     (append_assoc (page_parts_by pl g s) rest last)
     ∙ ap (shown_characters (elements_at g))

@@ -11,7 +11,7 @@ use Rattle.typed_functions.specs.declared.ansi_color.AnsiColor.TheVariants as an
 use Rattle.esc_html.specs.Names.{more_span_names, span_name, span_names}
 use Rattle.esc_style.specs.Classes.{class_name, color_name, index_digits, index_of, index_text, stem, two_digits}
 use Rattle.esc_style.specs.Colors.{color_code, hex_byte, hex_digit}
-use Rattle.esc_style.specs.Looks.{look_classes, look_styles, present, seen_foreground, shown_background}
+use Rattle.esc_style.specs.Looks.{look_classes, look_styles, values_of, seen_foreground, shown_background}
 use Rattle.esc_style.specs.Styles.{style_color, style_property, style_text, styles_text}
 use Rattle.esc_style.specs.declared.color.Color.{Color}
 use Rattle.esc_style.specs.declared.look.Look.{Look}
@@ -370,7 +370,7 @@ page_part_reads (text t) r h = text_chars t r
 page_part_reads (span true l) r h =
     last_reads (begun (codes "span")) (codes "style") (inline_text l) r (inline_plain l)
 page_part_reads (span false l) r h =
-    span_reads (present (look_classes l)) (present (look_styles l)) r
+    span_reads (values_of (look_classes l)) (values_of (look_styles l)) r
 page_part_reads span_end r h = refl
 page_part_reads (link a) r h =
     ap (tokens_from (value (begun (codes "a")) (codes "href") []))
@@ -470,7 +470,7 @@ pub page_part_kept : (p : PagePart) → is_kept_page_part p ≡ true
     → list_all is_kept (page_part_text p) ≡ true
 page_part_kept (text t) h = all_joined escape_text is_kept (kept_escaped 0x3e) t h
 page_part_kept (span true l) h = inline_kept l
-page_part_kept (span false l) h = span_kept (present (look_classes l)) (present (look_styles l))
+page_part_kept (span false l) h = span_kept (values_of (look_classes l)) (values_of (look_styles l))
 page_part_kept span_end h = refl
 page_part_kept (link a) h =
     rw (

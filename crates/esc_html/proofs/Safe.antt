@@ -16,12 +16,12 @@ use Rattle.esc_osc.specs.declared.command.OperatingSystemCommand.{OperatingSyste
 use Rattle.esc_osc.specs.declared.command.OperatingSystemCommand.TheVariants as command
 use Rattle.esc_sequences.specs.declared.esc.Esc.{Esc}
 use Rattle.typed_functions.specs.Functions.{Value as Function, of_csi, cursor, edit, device, keyboard, mouse, window, mode_status, charset, escape, modes, tabs, renditions, other}
-use Rattle.esc_values.specs.Clear.{is_clear, joined}
+use Rattle.esc_values.specs.Clear.{is_clear, semicolon_list}
 use Rattle.esc_html.specs.Addresses.{address_in, is_address_char, is_safe_address, is_safe_in_parts}
 use Rattle.esc_html.specs.Characters.{is_noncharacter, shown_as}
 use Rattle.esc_style.specs.Looks.{is_plain}
 use Rattle.esc_html.specs.Marks.{Pen, Step, restyles, redirects, shows, nothing, address_if, address_of, begins_line, command_step, control_step, ends_line, escape_begins_line, escape_step, function_step, is_page_address, lead_step, lead_to, print_step, step_of}
-use Rattle.esc_html.specs.Pages.{State, after_character, before_character, closed, closing, link_end_if, link_opening, opening, page_parts_by, page_parts_from, span_closing, span_end_unless, span_unless, state_by, state_from}
+use Rattle.esc_html.specs.Pages.{State, after_character, before_character, closing_parts, closing, link_end_if, link_opening, opening, page_parts_by, page_parts_from, span_closing, span_end_unless, span_unless, state_by, state_from}
 use Rattle.esc_html.specs.PageParts.{PagePart, text, span, span_end, link, link_end, is_kept, is_unbroken}
 use Rattle.esc_style.specs.declared.look.Look.{Look}
 use Rattle.esc_html.specs.declared.tags.Tags.{Tags}
@@ -159,16 +159,16 @@ good_link (Some h) = good_address (is_page_address h.uri) h.uri refl
 
 -- an address in parts
 pub page_in_parts : (us : List (List ℕ)) → is_safe_in_parts us ≡ true
-    → is_page_address (joined us) ≡ true
+    → is_page_address (semicolon_list us) ≡ true
 page_in_parts us h =
-    let q = safe_in_parts us h in sym (page_address (joined us) q.1) ∙ q.0
+    let q = safe_in_parts us h in sym (page_address (semicolon_list us) q.1) ∙ q.0
 
 good_parts : (us : List (List ℕ)) → IsGoodStep (lead_step (lead_to us))
 good_parts [] = tt
 good_parts (u ∷ us) = by (is_safe_in_parts (u ∷ us)) refl
   where
     by : (b : Bool) → is_safe_in_parts (u ∷ us) ≡ b
-        → IsGoodLink (address_if b (joined (u ∷ us)))
+        → IsGoodLink (address_if b (semicolon_list (u ∷ us)))
     by true h = page_in_parts (u ∷ us) h
     by false h = tt
 
@@ -290,13 +290,13 @@ module _ (T : PagePart → Bool) (on_span : (i : Bool) (l : Look) → T (span i 
 
   pub page_passes : {A : Type 0} (pl : Bool) (g : State) (vs : List (Value A))
       → IsGoodLink g.pen.link → EmittedAreWritable vs
-      → list_all T (page_parts_from pl g vs ++ closed (state_from pl g vs)) ≡ true
+      → list_all T (page_parts_from pl g vs ++ closing_parts (state_from pl g vs)) ≡ true
   page_passes pl g [] h k = closed_passes g.tags g.pen
   page_passes pl g (v ∷ vs) h (k, ks) =
       let s = step_of g.pen v in
       let good = good_step g.pen v k in
       let rest = page_parts_from pl (state_by pl g s) vs in
-      let last = closed (state_from pl (state_by pl g s) vs) in
+      let last = closing_parts (state_from pl (state_by pl g s) vs) in
       ap (list_all T) (append_assoc (page_parts_by pl g s) rest last)
       ∙ list_all-append T (page_parts_by pl g s) (rest ++ last)
       ∙ ap (λ b. b && list_all T (rest ++ last)) (step_passes pl g s h good)

@@ -12,7 +12,7 @@ use Rattle.esc_html.specs.PageParts.{attribute_text, attributes_text, class_attr
 use Rattle.esc_html.proofs.Encoded.{referenced, unreferenced}
 use Rattle.esc_html.specs.Names.{more_span_names, span_name, span_names}
 use Rattle.esc_style.specs.Classes.{color_name, index_digits, two_digits}
-use Rattle.esc_style.specs.Looks.{background_class, background_style, class_if, foreground_class, foreground_style, look_classes, look_styles, present, seen_foreground, shown_background, underline_class, underline_color_class, underline_color_style}
+use Rattle.esc_style.specs.Looks.{background_class, background_style, class_if, foreground_class, foreground_style, look_classes, look_styles, values_of, seen_foreground, shown_background, underline_class, underline_color_class, underline_color_style}
 use Rattle.esc_style.specs.Styles.{style_text, styles_text}
 use Rattle.esc_style.specs.declared.class.Class.{Class}
 use Rattle.esc_style.specs.declared.class.Class.TheVariants as class
@@ -99,7 +99,7 @@ names_size [] = 0
 names_size (c ∷ cs) = (1 + length (span_name c)) + names_size cs
 
 names_next : (o : Option Class) (os : List (Option Class))
-    → names_size (present (o ∷ os)) ≡ name_size o + names_size (present os)
+    → names_size (values_of (o ∷ os)) ≡ name_size o + names_size (values_of os)
 names_next None os = omega arith
 names_next (Some c) os = refl
 
@@ -139,7 +139,7 @@ all_declared_size [] = 0
 all_declared_size (s ∷ ss) = length (style_text s) + all_declared_size ss
 
 declared_next : (o : Option Style) (os : List (Option Style))
-    → all_declared_size (present (o ∷ os)) ≡ declared_size o + all_declared_size (present os)
+    → all_declared_size (values_of (o ∷ os)) ≡ declared_size o + all_declared_size (values_of os)
 declared_next None os = omega arith
 declared_next (Some s) os = refl
 
@@ -218,11 +218,11 @@ line_size (Direct d) = leb-true 30 30 refl
 
 -- the classes of a look but those of its colours
 marks_size : (h i : Bool) (u : Underline) (a b c d e f : Bool) (rest : List (Option Class))
-    → names_size (present (class_if h class.Bold ∷ class_if i class.Faint
+    → names_size (values_of (class_if h class.Bold ∷ class_if i class.Faint
     ∷ class_if a class.Italic ∷ underline_class u
     ∷ class_if b class.Blink ∷ class_if c class.Inverse ∷ class_if d class.Concealed
     ∷ class_if e class.Strikethrough ∷ class_if f class.Overline ∷ rest))
-    ≤ 109 + names_size (present rest)
+    ≤ 109 + names_size (values_of rest)
 marks_size h i u a b c d e f rest =
     let x0 = class_if f class.Overline ∷ rest in
     let x1 = class_if e class.Strikethrough ∷ x0 in
@@ -255,8 +255,9 @@ marks_size h i u a b c d e f rest =
     )
 
 colors_size : (a b c : Color)
-    → names_size (present (foreground_class a ∷ background_class b ∷ underline_color_class c ∷ []))
-    + all_declared_size (present (foreground_style a ∷ background_style b
+    → names_size
+        (values_of (foreground_class a ∷ background_class b ∷ underline_color_class c ∷ []))
+    + all_declared_size (values_of (foreground_style a ∷ background_style b
     ∷ underline_color_style c ∷ [])) ≤ 76
 colors_size a b c =
     omega (
@@ -291,8 +292,8 @@ tag_size x y =
 
 class_span_size : (l : Look) → length (page_part_text (span false l)) ≤ 231
 class_span_size l =
-    let cs = present (look_classes l) in
-    let ss = present (look_styles l) in
+    let cs = values_of (look_classes l) in
+    let ss = values_of (look_styles l) in
     let rest = foreground_class (seen_foreground l) ∷ background_class (shown_background l)
     ∷ underline_color_class l.underline_color ∷ [] in
     omega (

@@ -7,7 +7,7 @@ use Rattle.esc_actions.specs.Meaning.{meaning_within}
 use Rattle.esc_actions.specs.Writable.{EmittedAreWritable}
 use Rattle.esc_html.specs.Addresses.{is_safe_address}
 use Rattle.esc_html.specs.Listed.{IsListed, closes, is_safe_page_part}
-use Rattle.esc_html.specs.Pages.{closed, closing_text, first_state, page_text, page_parts_of, state_of_stream}
+use Rattle.esc_html.specs.Pages.{closing_parts, closing_text, first_state, page_text, page_parts_of, state_of_stream}
 use Rattle.esc_html.specs.PageParts.{is_kept_page_part, is_unbroken, page_part_text}
 use Rattle.esc_html.specs.Shown.{IsPage, shown_characters}
 use Rattle.esc_html.specs.Tokens.{tokens}
@@ -24,7 +24,7 @@ pub page_is : {A : Type 0} (limit : Option ℕ) (y : Layout) (s : List ℕ)
 page_is {A} limit y s h =
     let vs = meaning_within {A = A} limit s in
     let first = first_state y.inline in
-    let last = closed (state_of_stream A limit y s) in
+    let last = closing_parts (state_of_stream A limit y s) in
     let ps = page_parts_of A limit y s ++ last in
     let same = flat_map-append page_part_text (page_parts_of A limit y s) last in
     let kept = page_passes is_kept_page_part (λ b l. refl) refl refl (λ t k. k)

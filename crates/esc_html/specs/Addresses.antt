@@ -2,7 +2,7 @@
 use Rattle.std.specs.Prelude.{ℕ, nat_le, nat_lt, ◌==◌, Bool, false, ◌&&◌, ◌||◌, if◌then◌else◌, List, [], ◌∷◌, codes, length, take, Option, None, Some}
 use Rattle.std.specs.List.{list_all}
 use Rattle.std.specs.Str.{chars, str_eq_ignore_ascii_case}
-use Rattle.esc_values.specs.Clear.{joined}
+use Rattle.esc_values.specs.Clear.{semicolon_list}
 use Rattle.esc_values.specs.Scalars.{utf8_of}
 use Rattle.esc_html.specs.Characters.{is_character}
 
@@ -63,5 +63,5 @@ is_address_part u = is_address_text (utf8_of u)
 -- these parts, with `;` between them, are a safe address
 abbrev pub is_safe_in_parts : List (List ℕ) → Bool
 is_safe_in_parts [] = false
-is_safe_in_parts (u ∷ us) = (is_short (joined (u ∷ us)) && has_safe_scheme u)
+is_safe_in_parts (u ∷ us) = (is_short (semicolon_list (u ∷ us)) && has_safe_scheme u)
     && list_all is_address_part (u ∷ us)

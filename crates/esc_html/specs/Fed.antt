@@ -6,7 +6,7 @@ use Rattle.esc_actions.specs.declared.action.Action.{Action}
 use Rattle.esc_parse.specs.Fed.{IsBroken as IsBrokenParser, ParserHasConsumedWithin}
 use Rattle.esc_html.specs.Bounds.{IsBoundedPagePart}
 use Rattle.esc_html.specs.Marks.{Step, step_of}
-use Rattle.esc_html.specs.Pages.{State, closed, opening_tags, page_text, page_parts_by, state_by, state_of_stream}
+use Rattle.esc_html.specs.Pages.{State, closing_parts, opening_tags, page_text, page_parts_by, state_by, state_of_stream}
 use Rattle.esc_html.specs.PageParts.{escape_text, html_text}
 use Rattle.esc_html.specs.declared.html_writer.HtmlWriter.{HtmlWriter}
 use Rattle.esc_html.specs.declared.layout.Layout.{Layout}
@@ -79,7 +79,7 @@ added_by w = text_of w.page
 
 -- the tags that close those that are open
 abbrev pub closing_of : {A : Type 0} → HtmlWriter A → List ℕ
-closing_of w = html_text (closed (state_of w.page))
+closing_of w = html_text (closing_parts (state_of w.page))
 
 -- this holds for each stream that the writer may have been fed
 abbrev pub After : {A : Type 0} → HtmlWriter A → (ℕ → Layout → List ℕ → Type 0) → Type 0

@@ -9,7 +9,7 @@ use Rattle.esc_osc.specs.declared.command.OperatingSystemCommand.TheVariants as 
 use Rattle.esc_sequences.specs.declared.esc.Esc.{Esc}
 use Rattle.esc_sequences.specs.declared.esc.Esc.TheVariants.{Unspecified}
 use Rattle.typed_functions.specs.Functions.{Value as Function, renditions, of_csi}
-use Rattle.esc_values.specs.Clear.{joined}
+use Rattle.esc_values.specs.Clear.{semicolon_list}
 use Rattle.esc_html.specs.Addresses.{address_in, is_safe_address, is_safe_in_parts}
 use Rattle.esc_html.specs.Characters.{shown_as}
 use Rattle.esc_style.specs.Looks.{look_by_all, plain_look}
@@ -49,7 +49,7 @@ address_of (Some h) = address_if (is_page_address h.uri) h.uri
 -- the target of the characters after a link with an address of these parts, if there are any
 abbrev pub lead_to : List (List ℕ) → Option (Option (List ℕ))
 lead_to [] = None
-lead_to (u ∷ us) = Some (address_if (is_safe_in_parts (u ∷ us)) (joined (u ∷ us)))
+lead_to (u ∷ us) = Some (address_if (is_safe_in_parts (u ∷ us)) (semicolon_list (u ∷ us)))
 
 -- the target of the characters after a command, if it says one
 abbrev pub lead_by : {A : Type 0} → OperatingSystemCommand A → Option (Option (List ℕ))

@@ -3,7 +3,7 @@
 use Rattle.std.specs.Prelude.{ℕ, ◌==◌, Bool, true, false, not, ◌&&◌, ◌||◌, if◌then◌else◌, List, [], ◌∷◌, ◌++◌, codes, map}
 use Rattle.std.specs.List.{flat_map, list_all}
 use Rattle.std.specs.Str.{encode_utf8_all}
-use Rattle.esc_style.specs.Looks.{look_classes, look_styles, present}
+use Rattle.esc_style.specs.Looks.{look_classes, look_styles, values_of}
 use Rattle.esc_style.specs.Styles.{styles_text}
 use Rattle.esc_html.specs.Inline.{inline_text}
 use Rattle.esc_html.specs.Names.{span_names}
@@ -58,8 +58,8 @@ style_attribute (s ∷ ss) = (codes "style", styles_text (s ∷ ss)) ∷ []
 
 abbrev pub span_attributes : Bool → Look → List (List ℕ × List ℕ)
 span_attributes true l = (codes "style", inline_text l) ∷ []
-span_attributes false l = class_attribute (present (look_classes l))
-    ++ style_attribute (present (look_styles l))
+span_attributes false l = class_attribute (values_of (look_classes l))
+    ++ style_attribute (values_of (look_styles l))
 
 -- attributes in a tag, each after a space
 abbrev pub attribute_text : List ℕ × List ℕ → List ℕ
@@ -132,9 +132,9 @@ nests (open_link ∷ os) (link_end ∷ ps) = nests os ps
 nests _ _ = false
 
 -- a part of characters as one of the bytes of their UTF-8
-abbrev pub encoded : PagePart → PagePart
-encoded (text t) = text (encode_utf8_all t)
-encoded (span b l) = span b l
-encoded span_end = span_end
-encoded (link a) = link (encode_utf8_all a)
-encoded link_end = link_end
+abbrev pub utf8_part : PagePart → PagePart
+utf8_part (text t) = text (encode_utf8_all t)
+utf8_part (span b l) = span b l
+utf8_part span_end = span_end
+utf8_part (link a) = link (encode_utf8_all a)
+utf8_part link_end = link_end

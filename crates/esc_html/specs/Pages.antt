@@ -65,8 +65,8 @@ without_span Open = Link
 abbrev pub opening_tags : State → List PagePart
 opening_tags g = opening g.tags g.pen
 
-abbrev pub closed : State → List PagePart
-closed g = closing g.tags g.pen
+abbrev pub closing_parts : State → List PagePart
+closing_parts g = closing g.tags g.pen
 
 abbrev pub span_closed : State → List PagePart
 span_closed g = span_closing g.tags g.pen
@@ -85,13 +85,13 @@ after_character false g = with_tags g Open
 
 -- the tags before it
 abbrev pub before_character : Bool → State → List PagePart
-before_character true g = closed g
+before_character true g = closing_parts g
 before_character false g = opening_tags g
 
 -- the parts of a step
 abbrev pub page_parts_by : Bool → State → Step → List PagePart
 page_parts_by per_line g (restyles l) = span_closed g
-page_parts_by per_line g (redirects k) = closed g
+page_parts_by per_line g (redirects k) = closing_parts g
 page_parts_by per_line g (shows c) =
     before_character (ends_line per_line c) g ++ text (encode_utf8 c) ∷ []
 page_parts_by per_line g nothing = []
@@ -135,4 +135,4 @@ page_text A limit y s = html_text (page_parts_of A limit y s)
 
 -- the tags that close those that are open after it
 abbrev pub closing_text : Type 0 → Option ℕ → Layout → List ℕ → List ℕ
-closing_text A limit y s = html_text (closed (state_of_stream A limit y s))
+closing_text A limit y s = html_text (closing_parts (state_of_stream A limit y s))

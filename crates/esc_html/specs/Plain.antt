@@ -35,8 +35,8 @@ abbrev pub is_colorless : Look → Bool
 is_colorless l = is_own l.foreground && (is_own l.background && is_own l.underline_color)
 
 -- a colour of the characters by its name, and nothing else
-abbrev pub colored : AnsiColor → Look
-colored c = record plain_look { foreground = Named c }
+abbrev pub color_look : AnsiColor → Look
+color_look c = record plain_look { foreground = Named c }
 
 -- none of the renditions but a colour of the characters holds
 abbrev pub is_colored_alone : Look → Bool
@@ -63,8 +63,8 @@ marking mark.Inverse = Inverse true
 marking mark.Strikethrough = StrikeThrough true
 
 -- a mark, and nothing else
-abbrev pub marked : Mark → Look
-marked m = look_by plain_look (marking m)
+abbrev pub mark_look : Mark → Look
+mark_look m = look_by plain_look (marking m)
 
 abbrev pub is_single : UnderlineKind → Bool
 is_single underline.None = false
@@ -84,17 +84,17 @@ has_mark mark.Inverse l = l.inverse
 has_mark mark.Strikethrough l = l.strikethrough
 
 -- the same but for a mark
-abbrev pub unmarked : Mark → Look → Look
-unmarked mark.Bold l = record l { bold = false }
-unmarked mark.Faint l = record l { faint = false }
-unmarked mark.Italic l = record l { italic = false }
-unmarked mark.Underlined l = record l { underline = underline.None }
-unmarked mark.Inverse l = record l { inverse = false }
-unmarked mark.Strikethrough l = record l { strikethrough = false }
+abbrev pub look_without : Mark → Look → Look
+look_without mark.Bold l = record l { bold = false }
+look_without mark.Faint l = record l { faint = false }
+look_without mark.Italic l = record l { italic = false }
+look_without mark.Underlined l = record l { underline = underline.None }
+look_without mark.Inverse l = record l { inverse = false }
+look_without mark.Strikethrough l = record l { strikethrough = false }
 
 -- a mark holds, and nothing else
 abbrev pub is_marked : Mark → Look → Bool
-is_marked m l = has_mark m l && is_plain (unmarked m l)
+is_marked m l = has_mark m l && is_plain (look_without m l)
 
 -- a look is of this kind: it needs no span, has nothing but a colour by its name or but a mark, or
 -- needs a span

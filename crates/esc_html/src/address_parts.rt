@@ -1,7 +1,7 @@
 //! Addresses that come in parts: those with `;` in them.
 ghost use Rattle.std.specs.Prelude.{◌≡◌, ◌++◌, IfOk, OnErr, OnOk, Some, drop, true};
 ghost use Rattle.std.specs.List.{list_all};
-ghost use Rattle.esc_values.specs.Clear.{joined, separated_parts};
+ghost use Rattle.esc_values.specs.Clear.{semicolon_list, separated_parts};
 ghost use Rattle.esc_html.specs.Addresses.{address_in, is_address_part, is_link_code, is_safe_in_parts, is_short};
 ghost use Rattle.esc_html.specs.Marks.{lead_by, lead_to};
 ghost use Rattle.fallible_alloc.specs.Refusals.{Refused};
@@ -82,7 +82,7 @@ pub(crate) fn is_safe_in_parts<A: Allocator>(parts: &[Items<u8, A>]) -> bool
 
 // Whether these parts, with `;` between them, are no longer than terminals take.
 fn are_short<A: Allocator>(parts: &[Items<u8, A>]) -> bool
-    ensures { result ≡ is_short (joined parts.now) }
+    ensures { result ≡ is_short (semicolon_list parts.now) }
 {
     let mut rest = parts;
     // each with a `;` before it, the first one too
@@ -118,7 +118,7 @@ fn joined_address<A: Allocator>(
     parts: Items<Items<u8, A>, A>,
 ) -> Result<Option<Text<A>>, AllocError>
     requires { is_safe_in_parts (address_in parts) ≡ true }
-    ensures ok { IfOk result (λ t. t ≡ Some (joined (address_in parts))) }
+    ensures ok { IfOk result (λ t. t ≡ Some (semicolon_list (address_in parts))) }
     ensures refused { OnErr result (Refused A) }
 {
     let mut parts = parts.into_vec();
@@ -144,7 +144,7 @@ fn push_joined<A: Allocator>(
     bytes: &mut Vec<u8, A>,
     parts: &[Items<u8, A>],
 ) -> Result<(), AllocError>
-    ensures ok { OnOk result (bytes.new.items ≡ bytes.old.items ++ joined parts.now) }
+    ensures ok { OnOk result (bytes.new.items ≡ bytes.old.items ++ semicolon_list parts.now) }
     ensures refused { OnErr result (Refused A) }
 {
     match parts.split_first() {

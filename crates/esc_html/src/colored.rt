@@ -1,7 +1,7 @@
 //! The start tags of the looks that logs have most: a colour by its name, and nothing else.
 ghost use Rattle.std.specs.Prelude.{◌≡◌, ◌++◌, IfSome, OnErr, OnOk, false, string_bytes, true};
 ghost use Rattle.esc_html.specs.PageParts.{page_part_text, span};
-ghost use Rattle.esc_html.specs.Plain.{colored, is_colored_alone};
+ghost use Rattle.esc_html.specs.Plain.{color_look, is_colored_alone};
 ghost use Rattle.fallible_alloc.specs.Refusals.{Refused};
 
 use crate::plain::{is_markless, is_own};
@@ -38,7 +38,7 @@ fn colored_tag(look: &Look) -> Option<&'static str>
 
 fn tag_if(is_alone: bool, color: AnsiColor) -> Option<&'static str>
     ensures { IfSome result (λ t. (is_alone ≡ true)
-        × (t.now ≡ page_part_text (span false (colored color)))) }
+        × (t.now ≡ page_part_text (span false (color_look color)))) }
 {
     if is_alone { Some(tag_of(color)) } else { None }
 }
@@ -52,7 +52,7 @@ pub(crate) fn is_colored_alone(look: &Look) -> bool
 
 // The start tag of a span in this colour.
 pub(crate) fn tag_of(color: AnsiColor) -> &'static str
-    ensures { result.now ≡ page_part_text (span false (colored color)) }
+    ensures { result.now ≡ page_part_text (span false (color_look color)) }
 {
     match color {
         AnsiColor::Black => "<span class=\"es-fg-black\">",

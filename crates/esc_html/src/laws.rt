@@ -3,7 +3,7 @@ ghost use Rattle.std.specs.Prelude.{◌≡◌, ◌++◌, ℕ, List, [], Option, 
 ghost use Rattle.std.specs.List.{All, list_all};
 ghost use Rattle.std.specs.Str.{encode_utf8_all};
 ghost use Rattle.esc_html.specs.Listed.{IsListed, closes, is_safe_page_part};
-ghost use Rattle.esc_html.specs.PageParts.{PagePart, encoded, html_text, is_kept_page_part, nests, tokens_of};
+ghost use Rattle.esc_html.specs.PageParts.{PagePart, utf8_part, html_text, is_kept_page_part, nests, tokens_of};
 ghost use Rattle.esc_html.specs.Pages.{closing_text, page_text};
 ghost use Rattle.esc_html.specs.LinedPages.{IsLinedPage};
 ghost use Rattle.esc_html.specs.Lines.{in_lines};
@@ -39,7 +39,7 @@ pub fn page_parts_close()
 /// The UTF-8 of the text of parts is the text of the parts' UTF-8: so the laws hold for the
 /// characters that a browser decodes, as for the bytes that are written.
 pub fn page_parts_encoded()
-    ensures { (ps : List PagePart) → encode_utf8_all (html_text ps) ≡ html_text (map encoded ps) }
+    ensures { (ps : List PagePart) → encode_utf8_all (html_text ps) ≡ html_text (map utf8_part ps) }
 {}
 
 /// For any stream, the texts that an [`HtmlWriter`](crate::HtmlWriter) hands out for its parts and

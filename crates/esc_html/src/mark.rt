@@ -1,7 +1,7 @@
 //! Renditions that logs have most besides colours.
 ghost use Rattle.std.specs.Prelude.{◌≡◌, false};
 ghost use Rattle.esc_html.specs.PageParts.{page_part_text, span};
-ghost use Rattle.esc_html.specs.Plain.{marked, marking};
+ghost use Rattle.esc_html.specs.Plain.{mark_look, marking};
 ghost use Rattle.esc_style.specs.Looks.{look_by};
 
 use esc_sequences::Underline;
@@ -42,7 +42,7 @@ impl Mark {
 
     /// The start tag of a span whose look has it and nothing else.
     pub fn tag(self) -> &'static str
-        ensures { result.now ≡ page_part_text (span false (marked self)) }
+        ensures { result.now ≡ page_part_text (span false (mark_look self)) }
     {
         match self {
             Mark::Bold => "<span class=\"es-bold\">",

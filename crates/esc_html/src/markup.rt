@@ -4,7 +4,7 @@ ghost use Rattle.std.specs.Char.{encode_utf8};
 ghost use Rattle.std.specs.List.{flat_map, list_all};
 ghost use Rattle.esc_html.specs.Characters.{is_bare};
 ghost use Rattle.esc_html.specs.PageParts.{escape_text, link, page_part_text, span};
-ghost use Rattle.esc_html.specs.Plain.{colored, marked};
+ghost use Rattle.esc_html.specs.Plain.{color_look, mark_look};
 ghost use Rattle.fallible_alloc.specs.Refusals.{Refused};
 
 use crate::colored::{push_any_span, tag_of};
@@ -120,7 +120,7 @@ impl<A: Allocator> Markup<A> {
         color: AnsiColor,
         look: &Look,
     ) -> Result<(), AllocError>
-        requires { look.now ≡ colored color }
+        requires { look.now ≡ color_look color }
         ensures ok { OnOk result (self.new ≡ self.old ++ page_part_text (span inline look.now)) }
         ensures refused { OnErr result (Refused A) }
     {
@@ -134,7 +134,7 @@ impl<A: Allocator> Markup<A> {
     /// The same, if the look is this mark and nothing else.
     #[inline]
     pub fn push_marked(&mut self, inline: bool, mark: Mark, look: &Look) -> Result<(), AllocError>
-        requires { look.now ≡ marked mark }
+        requires { look.now ≡ mark_look mark }
         ensures ok { OnOk result (self.new ≡ self.old ++ page_part_text (span inline look.now)) }
         ensures refused { OnErr result (Refused A) }
     {

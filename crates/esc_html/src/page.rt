@@ -12,7 +12,7 @@ ghost use Rattle.esc_html.specs.Renditions.{rendition_by, rendition_of};
 ghost use Rattle.esc_parse.specs.Given.{Receives};
 ghost use Rattle.esc_sequences.specs.Csis.{sgr, unspecified};
 ghost use Rattle.typed_functions.specs.Functions.{of_csi, value_of};
-ghost use Rattle.typed_functions.specs.Selections.{left};
+ghost use Rattle.typed_functions.specs.Selections.{renditions_left};
 ghost use Rattle.fallible_alloc.specs.Refusals.{Refused};
 
 use crate::address_parts::lead_by;
@@ -269,7 +269,7 @@ impl<A: Allocator> Page<A> {
     // The span is closed, and the look changes.
     fn select(&mut self, renditions: Renditions<'_>) -> Result<(), AllocError>
         ensures ok { OnOk result (Adds self.old
-            (restyles (look_by_all (state_of self.old).pen.look (left renditions.entry)))
+            (restyles (look_by_all (state_of self.old).pen.look (renditions_left renditions.entry)))
             self.new) }
         ensures refused { OnErr result (Refused A) }
     {

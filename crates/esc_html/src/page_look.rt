@@ -6,7 +6,7 @@ ghost use Rattle.esc_html.specs.Plain.{is_colored, is_colored_alone, is_named, i
 ghost use Rattle.esc_style.specs.Looks.{is_plain, look_by, look_by_all, plain_look};
 ghost use Rattle.esc_style.specs.declared.look.Look.{Look as LookValue};
 ghost use Rattle.fallible_alloc.specs.Refusals.{Refused};
-ghost use Rattle.typed_functions.specs.Selections.{left};
+ghost use Rattle.typed_functions.specs.Selections.{renditions_left};
 ghost use Rattle.typed_functions.specs.declared.ansi_color.AnsiColor.{AnsiColor as AnsiColorValue};
 ghost use Rattle.typed_functions.specs.declared.rendition.Rendition.TheVariants.{AnsiForeground};
 
@@ -100,7 +100,7 @@ impl PageLook {
 
     /// Takes renditions, one after another.
     pub fn select_all(&mut self, renditions: Renditions<'_>)
-        ensures { self.new.look ≡ look_by_all self.old.look (left renditions.entry) }
+        ensures { self.new.look ≡ look_by_all self.old.look (renditions_left renditions.entry) }
     {
         self.look.select_all(renditions);
         self.kind = kind_of(&self.look);

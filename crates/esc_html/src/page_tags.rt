@@ -2,7 +2,7 @@
 ghost use Rattle.std.specs.Prelude.{◌≡◌, ◌++◌, OnErr, OnOk, true};
 ghost use Rattle.esc_html.specs.Fed.{Stays, state_of, text_of};
 ghost use Rattle.esc_html.specs.PageParts.{html_text};
-ghost use Rattle.esc_html.specs.Pages.{after_character, before_character, closed, link_opening, opening_tags, span_closed, span_unless, with_tags, without_span};
+ghost use Rattle.esc_html.specs.Pages.{after_character, before_character, closing_parts, link_opening, opening_tags, span_closed, span_unless, with_tags, without_span};
 ghost use Rattle.esc_html.specs.declared.tags.Tags.TheVariants.{Closed, Open};
 ghost use Rattle.esc_style.specs.Looks.{is_plain};
 ghost use Rattle.fallible_alloc.specs.Refusals.{Refused};
@@ -59,7 +59,7 @@ impl<A: Allocator> Page<A> {
     /// Closes the tags that are open.
     pub fn close(&mut self) -> Result<(), AllocError>
         ensures ok { OnOk result (text_of self.new
-            ≡ text_of self.old ++ html_text (closed (state_of self.old))) }
+            ≡ text_of self.old ++ html_text (closing_parts (state_of self.old))) }
         ensures state { OnOk result (state_of self.new ≡ with_tags (state_of self.old) Closed) }
         ensures layout { OnOk result (self.new.layout ≡ self.old.layout) }
         ensures refused { OnErr result (Refused A) }
@@ -87,7 +87,7 @@ impl<A: Allocator> Page<A> {
 
     /// The tags that close those that are open.
     pub fn closing(&self) -> &'static str
-        ensures { result.now ≡ html_text (closed (state_of self.now)) }
+        ensures { result.now ≡ html_text (closing_parts (state_of self.now)) }
     {
         match self.tags {
             Tags::Closed => "",
@@ -109,7 +109,7 @@ impl<A: Allocator> Page<A> {
     // Closes the tags at the end of a line, over which a link goes on a number of times.
     fn end_line(&mut self) -> Result<(), AllocError>
         ensures ok { OnOk result (text_of self.new
-            ≡ text_of self.old ++ html_text (closed (state_of self.old))) }
+            ≡ text_of self.old ++ html_text (closing_parts (state_of self.old))) }
         ensures state { OnOk result (state_of self.new ≡ after_character true (state_of self.old)) }
         ensures layout { OnOk result (self.new.layout ≡ self.old.layout) }
         ensures refused { OnErr result (Refused A) }

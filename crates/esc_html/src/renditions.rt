@@ -6,7 +6,7 @@ ghost use Rattle.esc_html.specs.Renditions.{AsksFor, is_number, rendition_by, re
 ghost use Rattle.esc_sequences.specs.Csis.{unspecified};
 ghost use Rattle.esc_style.specs.Looks.{look_by};
 ghost use Rattle.typed_functions.specs.Functions.{of_csi, value_of};
-ghost use Rattle.typed_functions.specs.Numbers.{numbered};
+ghost use Rattle.typed_functions.specs.Numbers.{number_rendition};
 ghost use Rattle.typed_functions.specs.Renditions.{byte_of};
 
 use crate::mark::Mark;
@@ -81,7 +81,7 @@ fn byte_of(param: CsiParam) -> Option<u8>
 // The one that a number asks for.
 #[inline]
 fn common_at(number: u8) -> Option<Common>
-    ensures { IfSome result (λ k. numbered number ≡ Some (rendition_by k)) }
+    ensures { IfSome result (λ k. number_rendition number ≡ Some (rendition_by k)) }
 {
     match number {
         0 => Some(Common::Reset),

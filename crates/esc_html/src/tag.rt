@@ -5,7 +5,7 @@ ghost use Rattle.esc_html.specs.Attributes.{class_opener, ending_quote, next_cla
 ghost use Rattle.esc_style.specs.Classes.{index_digits, index_text};
 ghost use Rattle.esc_style.specs.Colors.{is_small};
 ghost use Rattle.esc_html.specs.Growing.{Grows};
-ghost use Rattle.esc_style.specs.Looks.{present};
+ghost use Rattle.esc_style.specs.Looks.{values_of};
 ghost use Rattle.esc_html.specs.PageParts.{attributes_text, class_attribute, page_part_text, span, style_attribute};
 ghost use Rattle.fallible_alloc.specs.Refusals.{Refused};
 
@@ -32,7 +32,7 @@ fn push_class_attribute<A: Allocator>(
     classes: &[Option<Class>],
 ) -> Result<(), AllocError>
     ensures ok { OnOk result (string_bytes html.new
-        ≡ string_bytes html.old ++ attributes_text (class_attribute (present classes.now))) }
+        ≡ string_bytes html.old ++ attributes_text (class_attribute (values_of classes.now))) }
     ensures grown { Grows (string_bytes html.old) (string_bytes html.new) }
     ensures refused { OnErr result (Refused A) }
 {
@@ -106,7 +106,7 @@ fn push_style_attribute<A: Allocator>(
     styles: &[Option<Style>],
 ) -> Result<(), AllocError>
     ensures ok { OnOk result (string_bytes html.new
-        ≡ string_bytes html.old ++ attributes_text (style_attribute (present styles.now))) }
+        ≡ string_bytes html.old ++ attributes_text (style_attribute (values_of styles.now))) }
     ensures grown { Grows (string_bytes html.old) (string_bytes html.new) }
     ensures refused { OnErr result (Refused A) }
 {

@@ -8,7 +8,7 @@ use Rattle.esc_actions.specs.Values.{Value}
 use Rattle.esc_filter.specs.Characters.{in_values}
 use Rattle.esc_filter.specs.Closing.{closed_values, joined_lists}
 use Rattle.esc_filter.specs.Lines.{IsLine, begin_with, closed_by_lines_as, content, ended_lines, ends_line, has_line_feed, is_line_feed, last_line, line_text, lines, passed_of_line, text_by_lines_as}
-use Rattle.esc_filter.specs.Openings.{AreQuiet, is_blank, opening_at, opening_of, resumed, resumed_from}
+use Rattle.esc_filter.specs.Openings.{AreQuiet, is_blank, opening_at, opening_of, resumed_stream, resumed_from}
 use Rattle.esc_filter.specs.Passing.{IsFilteredAs, closed_text_as, in_lines, passed_text_as}
 use Rattle.esc_filter.specs.declared.guard.Guard.{Guard}
 use Rattle.esc_filter.proofs.ByLine.BytesOfLines.{ended_is, ended_open, ends_append, last_is, last_open, line_ends, line_feed_is, lines_append, no_end, one_line, open_line, split_open}
@@ -244,10 +244,11 @@ module _ {A : Type 0} (u : Guard) (f : Value A → Bool) (text : AdmitsInstead u
         from_first u again f k d b r ends none ∙ ap (λ o. d ++ (o ++ b ∷ r)) h
 
     pub resumes_nothing : (k : Bool)
-        → resumed k u again f (closed_by_lines_as u limit f s) ≡ closed_by_lines_as u limit f s
+        → resumed_stream k u again f (closed_by_lines_as u limit f s)
+            ≡ closed_by_lines_as u limit f s
     resumes_nothing k =
         let (a, b, c) = quiet_lines u again f k [] ks refl (at_none u again f k) each.1 in
-        ap (resumed k u again f) p.whole
+        ap (resumed_stream k u again f) p.whole
         ∙ from_more u again f k [] (joined_lists ks) (Last p.rest)
         ∙ ap (λ d. resumed_from k u again f d (Last p.rest)) a
         ∙ after_last (joined_lists ks) (Last p.rest) c p.unended k b

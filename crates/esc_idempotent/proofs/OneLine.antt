@@ -21,7 +21,7 @@ use Rattle.esc_filter.specs.Lines.{IsLine, body, content, end_text, ends_return,
 use Rattle.esc_filter.specs.Openings.{opening_left, opening_of}
 use Rattle.esc_filter.specs.Passing.{IsFilteredAs, closed_text_as, in_lines, is_line_feed, is_whole, passed_text_as, passes}
 use Rattle.esc_filter.specs.Pens.{pen_after, start_pen, text_of_pen}
-use Rattle.esc_filter.specs.Terminal.{unchanged}
+use Rattle.esc_filter.specs.Terminal.{as_at_start}
 use Rattle.esc_filter.specs.declared.guard.Guard.{Guard}
 use Rattle.esc_filter.proofs.GivingBack.GivingBackRestores.{at_start}
 use Rattle.esc_filter.proofs.ByLine.BytesOfLines.{body_append, body_held, body_whole, content_is, line_ends, return_append}
@@ -82,7 +82,7 @@ module _ {A : Type 0} where
     pub record ReadsAgain (y : List ℕ) : Type 0 where
       pub values : List (Value A)
       pub passed : passed_of_content u again f y ≡ values
-      pub leaves : after_values values unchanged ≡ after_values ws unchanged
+      pub leaves : after_values values as_at_start ≡ after_values ws as_at_start
       pub text : list_text values ++ end_text f (ends_return false y) ≡ y ++ 0x0a ∷ []
 
     abbrev ns : List (Value A)
@@ -99,7 +99,7 @@ module _ {A : Type 0} where
     pub record IsCut (x : List ℕ) : Type 0 where
       pub values : List (Value A)
       pub passed : Again x ≡ values
-      pub leaves : after_values values unchanged ≡ after_values ws unchanged
+      pub leaves : after_values values as_at_start ≡ after_values ws as_at_start
       pub text : list_text values ++ 0x0d ∷ [] ≡ list_text ws
       pub admitted : f (control CarriageReturn) ≡ true
 
@@ -118,8 +118,8 @@ module _ {A : Type 0} where
               ap (λ zs. in_values u (filter (P f) zs)) (kept ∙ with_feed_is)
               ∙ ap (in_values u) (without_feed f vs) ∙ steady_is u ms steady;
           leaves =
-              sym (after_more ms (control CarriageReturn ∷ []) unchanged)
-              ∙ ap (λ zs. after_values zs unchanged) (sym are) ∙ n.leaves;
+              sym (after_more ms (control CarriageReturn ∷ []) as_at_start)
+              ∙ ap (λ zs. after_values zs as_at_start) (sym are) ∙ n.leaves;
           text =
               ap (λ t. list_text ms ++ t) (sym (return_text A (ends_in_string false ms)))
               ∙ sym (texts_more false ms (control CarriageReturn ∷ []))

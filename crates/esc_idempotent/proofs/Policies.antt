@@ -17,7 +17,7 @@ use Rattle.esc_actions.specs.declared.control_code.ControlCode.TheVariants.{Shif
 use Rattle.esc_filter.specs.Closing.{after_values, ascii_in, closing, escape, keeps_cursor, private_mode}
 use Rattle.esc_filter.specs.Known.{IsPassedText}
 use Rattle.esc_filter.specs.Rules.{admits, changes_with, escape_changes_with}
-use Rattle.esc_filter.specs.Terminal.{unchanged}
+use Rattle.esc_filter.specs.Terminal.{as_at_start}
 use Rattle.esc_filter.specs.declared.policy.Policy.{Policy}
 use Rattle.esc_filter.specs.declared.policy.Policy.TheVariants as policy
 use Rattle.esc_filter.proofs.Output.RunsOfText.{text_passes}
@@ -101,7 +101,7 @@ module _ {A : Type 0} where
   closes policy.Screen f same vs h =
       all_same f (admits policy.Screen) same (closing f vs)
       ∙ back_all (admits policy.Screen) (screen_each A) (keeps_cursor f)
-      (after_values vs unchanged)
+      (after_values vs as_at_start)
   closes policy.All f same vs h =
       all_same f (admits policy.All) same (closing f vs) ∙ every (closing f vs)
 

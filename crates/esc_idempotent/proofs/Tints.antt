@@ -14,7 +14,7 @@ use Rattle.esc_filter.specs.Addresses.{address_in, is_address}
 use Rattle.esc_filter.specs.Closing.{after_address, after_body, after_command, after_control, after_sequence, after_value, after_values, closing, given_back, is_reset, keeps_cursor, opens, turned_terminal}
 use Rattle.esc_filter.specs.Tokens.{AdmitsAtMost}
 use Rattle.esc_filter.specs.Rules.{is_color, is_layout, is_link, is_plain_param, is_rendition, is_text}
-use Rattle.esc_filter.specs.Terminal.{unchanged}
+use Rattle.esc_filter.specs.Terminal.{as_at_start}
 use Rattle.esc_filter.specs.declared.policy.Policy.TheVariants as policy
 use Rattle.esc_filter.specs.declared.terminal.Terminal.{Terminal}
 use Rattle.esc_filter.proofs.GivingBack.RenditionsAfterSequence.{plain_lit}
@@ -53,13 +53,13 @@ texts_stay (v ∷ vs) t h =
 -- nothing is given back of it
 pub text_closes : {A : Type 0} (f : Value A → Bool) (vs : List (Value A))
     → list_all is_text vs ≡ true → closing f vs ≡ []
-text_closes f vs h = ap (given_back (keeps_cursor f)) (texts_stay vs unchanged h)
+text_closes f vs h = ap (given_back (keeps_cursor f)) (texts_stay vs as_at_start h)
 
 -- ---- renditions and links
 
 -- a rendition and a link alone
 abbrev tinted : Bool → Bool → Terminal
-tinted r l = record unchanged { rendition = r; link = l }
+tinted r l = record as_at_start { rendition = r; link = l }
 
 abbrev linked : Bool → Terminal → Terminal
 linked b t = record t { link = b }
@@ -148,7 +148,7 @@ module _ {A : Type 0} (f : Value A → Bool) (most : AdmitsAtMost policy.Color f
       let q = and_parts (f v) (list_all f vs) h in
       values_tint vs (after_value v t) q.1 (value_tints v t q.0 k)
 
-  first_tints : IsTinted unchanged
+  first_tints : IsTinted as_at_start
   first_tints = record {
     rendition = false;
     link = false;
@@ -167,6 +167,6 @@ module _ {A : Type 0} (f : Value A → Bool) (most : AdmitsAtMost policy.Color f
 
   pub tints_close : AdmitsItsClosing f
   tints_close vs h =
-      let k = values_tint vs unchanged h first_tints in
+      let k = values_tint vs as_at_start h first_tints in
       ap (λ t. list_all f (given_back (keeps_cursor f) t)) k.tints
       ∙ back_of (keeps_cursor f) k.rendition k.link k.reset k.ended

@@ -16,7 +16,7 @@ use Rattle.esc_filter.specs.Characters.{in_guard, in_return, in_values, in_value
 use Rattle.esc_filter.specs.Closing.{after_values, closed_values, closing, given_back, keeps_cursor}
 use Rattle.esc_filter.specs.Passing.{closed_text_as, is_line_feed, is_whole, passed_as, passed_text_as, passes}
 use Rattle.esc_filter.specs.Rules.{is_shown}
-use Rattle.esc_filter.specs.Terminal.{unchanged}
+use Rattle.esc_filter.specs.Terminal.{as_at_start}
 use Rattle.esc_filter.specs.declared.guard.Guard.{Guard}
 use Rattle.esc_filter.specs.declared.returns.Returns.{Returns}
 use Rattle.esc_filter.specs.declared.returns.Returns.TheVariants as way
@@ -158,7 +158,7 @@ module _ {A : Type 0} where
 
   pub calm_back : (f : Value A → Bool) (vs : List (Value A))
       → list_all is_calm (closing f vs) ≡ true
-  calm_back f vs = back_all is_calm calm_each (keeps_cursor f) (after_values vs unchanged)
+  calm_back f vs = back_all is_calm calm_each (keeps_cursor f) (after_values vs as_at_start)
 
   calm_still : (v : Value A) → is_calm v ≡ true → is_still v ≡ true
   calm_still v h = (and_parts (is_still v) (is_whole v && not (is_line_feed v)) h).0
@@ -195,7 +195,7 @@ module _ {A : Type 0} where
   pub record ArePassedAgain (u : Guard) (ws ns : List (Value A)) : Type 0 where
     pub text : list_text ns ≡ list_text ws
     pub steady : IsSteady u ns
-    pub leaves : after_values ns unchanged ≡ after_values ws unchanged
+    pub leaves : after_values ns as_at_start ≡ after_values ws as_at_start
 
   pub pass_again : (u : Guard) (p : Value A → Bool) (ws : List (Value A)) → ArePassed u p ws
       → ArePassedAgain u ws (filter p (normal ws))
@@ -206,7 +206,7 @@ module _ {A : Type 0} where
           subst (ArePassedAgain u ws) (sym (all_kept p e ws a.pass a.single)) (record {
             text = same_text ws a.writable;
             steady = steady_normal u ws a.single a.steady;
-            leaves = normal_leaves ws unchanged a.single;
+            leaves = normal_leaves ws as_at_start a.single;
           })
       by false e =
           subst (ArePassedAgain u ws) (sym (own_kept p e ws a.pass a.single)) (record {
@@ -255,7 +255,7 @@ module _ {A : Type 0} where
 
   -- nothing more is given back
   pub closes_again : (f : Value A → Bool) (vs ns : List (Value A))
-      → after_values ns unchanged ≡ after_values (closed_values f vs) unchanged
+      → after_values ns as_at_start ≡ after_values (closed_values f vs) as_at_start
       → closed_values f ns ≡ ns
   closes_again f vs ns e =
       ap (λ t. ns ++ given_back (keeps_cursor f) t) e

@@ -6,9 +6,9 @@ use Rattle.std.specs.Option.{unwrap_or}
 use Rattle.std.specs.Str.{IsUtf8}
 use Rattle.std.proofs.lemmas.List.{append_assoc}
 use Rattle.esc_values.specs.Base64.{base64_text_of, base64_text}
-use Rattle.esc_values.specs.Clear.{joined, separated_parts}
+use Rattle.esc_values.specs.Clear.{semicolon_list, separated_parts}
 use Rattle.esc_values.specs.Cuts.{Pairs, pair_text}
-use Rattle.esc_values.specs.Fields.{values_of, written, entries, FitAll}
+use Rattle.esc_values.specs.Fields.{values_of, present_pairs, entries, FitAll}
 use Rattle.esc_values.specs.Scalars.{and_then, number_of}
 use Rattle.esc_values.proofs.Base64.{base64_passes, base64_back, base64_bytes_back}
 use Rattle.esc_values.proofs.Fields.{AreLawful, entries_pass, reads_back, texts_at, written_values}
@@ -78,10 +78,10 @@ file_laws = record { back = kind_back; fits = kind_fits; passes = kind_passes }
 
 -- the file of the keys that are written
 fields_back : {A : Type 0} (f : ITermFileData A) → FitAll file_fields f
-    → file_in {A = A} (values_of (written (entries file_fields f))) f.content ≡ Some f
+    → file_in {A = A} (values_of (present_pairs (entries file_fields f))) f.content ≡ Some f
 fields_back {A = A} f h =
     reads_back file_laws (file_fields {A = A}) (filled_file f.content) f
-    (values_of (written (entries file_fields f))) h
+    (values_of (present_pairs (entries file_fields f))) h
     (ap (texts_at (file_fields {A = A})) (written_values (entries file_fields f)))
 
 -- the file of the slices
@@ -91,7 +91,7 @@ made o = and_then o (λ (m : Pairs × List ℕ). file_with (values_of m.0) m.1)
 back_of : {A : Type 0} (f : ITermFileData A) (es : Pairs) (b : List ℕ) → AreSlices es
     → list_all is_part_plain (0x3a ∷ b) ≡ true
     → file_with {A = A} (values_of es) b ≡ Some f
-    → file_text f ≡ codes "File=" ++ (joined (map pair_text es) ++ 0x3a ∷ b) → FileBack f
+    → file_text f ≡ codes "File=" ++ (semicolon_list (map pair_text es) ++ 0x3a ∷ b) → FileBack f
 back_of {A = A} f [] b h plain is text = (
   ended (codes "File=" ++ []) [] (0x3a ∷ b),
   text ∙ sym (joined_ended (codes "File=" ++ []) [] (0x3a ∷ b)),
@@ -114,10 +114,10 @@ back_of {A = A} f (e ∷ es) b h plain is text = (
 pub file_back : {A : Type 0} (f : ITermFileData A) → IsWritableFile f → FileBack f
 file_back {A = A} f h =
     let es = entries file_fields f in
-    back_of f (written es) (base64_text f.content)
+    back_of f (present_pairs es) (base64_text f.content)
     (written_slices es (entries_pass file_laws (λ k. list_all is_name k) file_fields f refl h.0))
     (base64_passes is_part_plain refl refl f.content (from_index f.content h.1))
-    (ap (λ o. and_then o (file_in {A = A} (values_of (written es))))
+    (ap (λ o. and_then o (file_in {A = A} (values_of (present_pairs es))))
     (base64_bytes_back f.content h.1)
     ∙ fields_back f h.0)
     refl

@@ -8,7 +8,7 @@ use Rattle.std.specs.Str.Lossy.{utf8_lossy}
 use Rattle.std.proofs.lemmas.List.{append-nil}
 use Rattle.std.proofs.lemmas.Bool.{cases_Bool}
 use Rattle.esc_values.specs.Base64.{base64_text, base64_text_of}
-use Rattle.esc_values.specs.Clear.{IsClearPart, joined}
+use Rattle.esc_values.specs.Clear.{IsClearPart, semicolon_list}
 use Rattle.esc_values.specs.Scalars.{and_then}
 use Rattle.esc_values.proofs.Base64.{base64_part, base64_back}
 use Rattle.esc_values.proofs.ClearPairs.{key_back, key_none}
@@ -69,7 +69,7 @@ bare_means A k more w =
     ∙ ap (λ o. form_from {A = A} k o more) (key_none k w.lacks)
 
 -- one part after the code
-one_text : (t : List ℕ) → codes "1337;" ++ t ≡ joined (codes "1337" ∷ t ∷ [])
+one_text : (t : List ℕ) → codes "1337;" ++ t ≡ semicolon_list (codes "1337" ∷ t ∷ [])
 one_text t = ap (λ x. codes "1337;" ++ x) (sym (append-nil t))
 
 alone_back : (A : Type 0) (c : ITermProprietary A) (k : List ℕ) → Keyword k → form_text c ≡ k
@@ -100,12 +100,12 @@ cell_word = record {
 
 cell_text : (x y : List ℕ)
     → codes "1337;" ++ (codes "ReportCellSize=" ++ (x ++ 0x3b ∷ (y ++ codes "")))
-    ≡ joined (codes "1337" ∷ (codes "ReportCellSize" ++ 0x3d ∷ x) ∷ y ∷ [])
+    ≡ semicolon_list (codes "1337" ∷ (codes "ReportCellSize" ++ 0x3d ∷ x) ∷ y ∷ [])
 cell_text x y = refl
 
 scaled_text : (x y z : List ℕ)
     → codes "1337;" ++ (codes "ReportCellSize=" ++ (x ++ 0x3b ∷ (y ++ 0x3b ∷ z)))
-    ≡ joined (codes "1337" ∷ (codes "ReportCellSize" ++ 0x3d ∷ x) ∷ y ∷ z ∷ [])
+    ≡ semicolon_list (codes "1337" ∷ (codes "ReportCellSize" ++ 0x3d ∷ x) ∷ y ∷ z ∷ [])
 scaled_text x y z =
     ap (λ t. codes "1337;ReportCellSize=" ++ (x ++ 0x3b ∷ (y ++ 0x3b ∷ t))) (sym (append-nil z))
 

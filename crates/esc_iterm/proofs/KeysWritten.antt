@@ -4,9 +4,9 @@ use Rattle.std.proofs.Common.{◌++◌, length, map, take, get_or, Option, Some,
 use Rattle.std.proofs.Common.{append_assoc, append-nil}
 use Rattle.std.specs.Option.{is_some}
 use Rattle.std.proofs.lemmas.List.{take_more, flat_map_more, map-append}
-use Rattle.esc_values.specs.Clear.{joined, separated_parts}
+use Rattle.esc_values.specs.Clear.{semicolon_list, separated_parts}
 use Rattle.esc_values.specs.Cuts.{Pairs, pair_text}
-use Rattle.esc_values.specs.Fields.{Entry, with_value, written}
+use Rattle.esc_values.specs.Fields.{Entry, with_value, present_pairs}
 use Rattle.esc_iterm.specs.Files.{key_slices, pieces_after}
 
 -- whether there is no slice
@@ -23,20 +23,20 @@ slices_push : (es : List Entry) (e : Entry)
     → key_slices (es ++ e ∷ []) ≡ key_slices es ++ key_slices (e ∷ [])
 slices_push [] e = refl
 slices_push (d ∷ es) e =
-    slice_push d.0 d.1 (written (es ++ e ∷ []))
+    slice_push d.0 d.1 (present_pairs (es ++ e ∷ []))
     ∙ ap (λ t. key_slices (d ∷ []) ++ t) (slices_push es e)
     ∙ sym (append_assoc (key_slices (d ∷ [])) (key_slices es) (key_slices (e ∷ [])))
-    ∙ ap (λ t. t ++ key_slices (e ∷ [])) (sym (slice_push d.0 d.1 (written es)))
+    ∙ ap (λ t. t ++ key_slices (e ∷ [])) (sym (slice_push d.0 d.1 (present_pairs es)))
 
 text_push : (ps : List (List ℕ)) (k : List ℕ) (o : Option (List ℕ))
-    → joined (ps ++ key_slices ((k, o) ∷ []))
-    ≡ joined ps ++ pieces_after (is_nothing ps) (key_slices ((k, o) ∷ []))
+    → semicolon_list (ps ++ key_slices ((k, o) ∷ []))
+    ≡ semicolon_list ps ++ pieces_after (is_nothing ps) (key_slices ((k, o) ∷ []))
 text_push [] k o = refl
-text_push (p ∷ ps) k None = rw (append-nil ps) (sym (append-nil (joined (p ∷ ps))))
+text_push (p ∷ ps) k None = rw (append-nil ps) (sym (append-nil (semicolon_list (p ∷ ps))))
 text_push (p ∷ ps) k (Some v) =
     ap (λ t. p ++ t) (sym (flat_map_more (λ (q : List ℕ). 0x3b ∷ q) [] ps (pair_text (k, v))))
     ∙ sym (append_assoc p (separated_parts ps) (0x3b ∷ pair_text (k, v)))
-    ∙ ap (λ t. joined (p ∷ ps) ++ 0x3b ∷ t) (sym (append-nil (pair_text (k, v))))
+    ∙ ap (λ t. semicolon_list (p ∷ ps) ++ 0x3b ∷ t) (sym (append-nil (pair_text (k, v))))
 
 first_push : (ps : List (List ℕ)) (k : List ℕ) (o : Option (List ℕ))
     → is_nothing (ps ++ key_slices ((k, o) ∷ [])) ≡ (is_nothing ps && not (is_some o))
@@ -56,13 +56,15 @@ slices_more f keys i d lt =
 -- the text of the keys so far and one more, where first says whether none of them is written
 pub text_more : {X : Type 0} (f : X → Entry) (keys : List X) (i : ℕ) (d : X) (first : Bool)
     → i < length keys → first ≡ is_nothing (key_slices (map f (take i keys)))
-    → joined (key_slices (map f (take i keys)))
+    → semicolon_list (key_slices (map f (take i keys)))
     ++ pieces_after first (key_slices (f (get_or keys i d) ∷ []))
-    ≡ joined (key_slices (map f (take (i + 1) keys)))
+    ≡ semicolon_list (key_slices (map f (take (i + 1) keys)))
 text_more f keys i d first lt is =
     let k = f (get_or keys i d) in
-    ap (λ b. joined (key_slices (map f (take i keys))) ++ pieces_after b (key_slices (k ∷ []))) is
-    ∙ sym (ap joined (slices_more f keys i d lt) ∙ text_push (key_slices (map f (take i keys))) k.0
+    ap (λ b. semicolon_list (key_slices (map f (take i keys)))
+        ++ pieces_after b (key_slices (k ∷ []))) is
+    ∙ sym (ap semicolon_list (slices_more f keys i d lt) ∙ text_push
+        (key_slices (map f (take i keys))) k.0
     k.1)
 
 pub first_more : {X : Type 0} (f : X → Entry) (keys : List X) (i : ℕ) (d : X) (first after : Bool)

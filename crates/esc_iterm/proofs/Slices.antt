@@ -5,9 +5,9 @@ use Rattle.std.specs.List.{list_all}
 use Rattle.std.specs.Option.{option_map}
 use Rattle.std.proofs.lemmas.Bool.{ne_eqb, and_parts}
 use Rattle.std.proofs.lemmas.List.{append-nil, append_assoc, length-append}
-use Rattle.esc_values.specs.Clear.{separated_parts, joined, IsClearPart, AreClearParts}
+use Rattle.esc_values.specs.Clear.{separated_parts, semicolon_list, IsClearPart, AreClearParts}
 use Rattle.esc_values.specs.Cuts.{Pairs, key_and_value, pair_text, pairs_in}
-use Rattle.esc_values.specs.Fields.{Entry, with_value, written}
+use Rattle.esc_values.specs.Fields.{Entry, with_value, present_pairs}
 use Rattle.esc_values.specs.Scalars.{and_then}
 use Rattle.esc_values.proofs.ClearPairs.{key_back}
 use Rattle.esc_values.proofs.Cutting.{Free, free_passes, cut_there}
@@ -94,7 +94,7 @@ separated_ended p (q ∷ ps) t =
     ∙ ap (λ u. 0x3b ∷ u) (sym (append_assoc q (separated_parts ps) t)))
 
 pub joined_ended : (p : List ℕ) (ps : List (List ℕ)) (t : List ℕ)
-    → joined (ended p ps t) ≡ p ++ (separated_parts ps ++ t)
+    → semicolon_list (ended p ps t) ≡ p ++ (separated_parts ps ++ t)
 joined_ended p [] t = append-nil (p ++ t)
 joined_ended p (q ∷ ps) t =
     ap (λ u. p ++ u) (separated_ended q ps t
@@ -128,9 +128,9 @@ with_slice : (k : List ℕ) (o : Option (List ℕ)) (es : Pairs) → list_all is
 with_slice k None es h g p = p
 with_slice k (Some v) es h g p = (record { key = h; value = g }, p)
 
-pub written_slices : (es : List Entry) → list_all is_entry es ≡ true → AreSlices (written es)
+pub written_slices : (es : List Entry) → list_all is_entry es ≡ true → AreSlices (present_pairs es)
 written_slices [] h = tt
 written_slices (e ∷ es) h =
     let q = and_parts (is_entry e) (list_all is_entry es) h in
     let k = and_parts (list_all is_name e.0) (is_value e.1) q.0 in
-    with_slice e.0 e.1 (written es) k.0 k.1 (written_slices es q.1)
+    with_slice e.0 e.1 (present_pairs es) k.0 k.1 (written_slices es q.1)

@@ -8,9 +8,9 @@ use Rattle.std.specs.Option.{option_map, unwrap_or}
 use Rattle.std.specs.Str.{IsUtf8}
 use Rattle.base64.specs.GeneralPurpose.{IsBytes}
 use Rattle.esc_values.specs.Base64.{base64_of, base64_text_of, base64_text}
-use Rattle.esc_values.specs.Clear.{joined, separated_parts, AreClearParts}
+use Rattle.esc_values.specs.Clear.{semicolon_list, separated_parts, AreClearParts}
 use Rattle.esc_values.specs.Cuts.{Pairs, cut_at, pair_text, pairs_in, without_empty}
-use Rattle.esc_values.specs.Fields.{Values, values_of, Entry, written, Kinds, Field, entries, FitAll, read_with}
+use Rattle.esc_values.specs.Fields.{Values, values_of, Entry, present_pairs, Kinds, Field, entries, FitAll, read_with}
 use Rattle.esc_values.specs.Scalars.{and_then, some_if, number_of}
 use Rattle.esc_iterm.specs.Dimensions.{dimension_of, dimension_text, IsDimension}
 use Rattle.esc_iterm.specs.declared.dimension.ITermDimension.{ITermDimension}
@@ -156,17 +156,17 @@ file_of (p ∷ ps) = if starts_with nat_eq p (codes "File=") then file_from (dro
 
 -- the slices of the keys that are written
 abbrev pub key_slices : List Entry → List (List ℕ)
-key_slices es = map pair_text (written es)
+key_slices es = map pair_text (present_pairs es)
 
 -- slices with `;` between them, and before the first of them where it is not the first at all
 abbrev pub pieces_after : Bool → List (List ℕ) → List ℕ
-pieces_after true ps = joined ps
+pieces_after true ps = semicolon_list ps
 pieces_after false ps = separated_parts ps
 
 -- the text of a file, after `1337;`
 abbrev pub file_text : {A : Type 0} → ITermFileData A → List ℕ
 file_text f =
-    codes "File=" ++ (joined (key_slices (entries file_fields f)) ++ 0x3a ∷ base64_text f.content)
+    codes "File=" ++ (semicolon_list (key_slices (entries file_fields f)) ++ 0x3a ∷ base64_text f.content)
 
 -- A file as a program can hold it: its name is a text, its size and the numbers of its dimensions
 -- have 64 bits, its content is bytes.
@@ -175,5 +175,6 @@ IsWritableFile f = FitAll file_fields f × IsBytes f.content
 
 -- its text is that of clear parts, at least one, which are read as the file
 abbrev pub FileBack : {A : Type 0} → ITermFileData A → Type 0
-FileBack f = (args : List (List ℕ)) × (file_text f ≡ joined args) × (args ≢ []) × AreClearParts args
+FileBack f = (args : List (List ℕ)) × (file_text f ≡ semicolon_list args) × (args ≢ [])
+    × AreClearParts args
     × (file_of args ≡ Some f)

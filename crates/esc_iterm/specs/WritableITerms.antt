@@ -1,7 +1,7 @@
 -- Which of iTerm2's proprietary commands read back from their text.
 use Rattle.std.specs.Prelude.{ℕ, ◌≡◌, ◌<◌, ◌^◌, List, ◌∷◌, codes, Option, Some, None}
 use Rattle.std.specs.Str.{IsUtf8}
-use Rattle.esc_values.specs.Clear.{IsClearPart, AreClearParts, joined}
+use Rattle.esc_values.specs.Clear.{IsClearPart, AreClearParts, semicolon_list}
 use Rattle.esc_values.specs.Cuts.{cut_at}
 use Rattle.esc_iterm.specs.Files.{IsWritableFile}
 use Rattle.esc_iterm.specs.ITerms.{iterm_of, iterm_text}
@@ -43,5 +43,5 @@ IsWritableITerm c = Unit {0}
 
 -- the command is written as its code and clear parts, and these parts mean it
 abbrev pub WritesBack : {A : Type 0} → ITermProprietary A → Type 0
-WritesBack c = (args : List (List ℕ)) × (iterm_text c ≡ joined (codes "1337" ∷ args))
+WritesBack c = (args : List (List ℕ)) × (iterm_text c ≡ semicolon_list (codes "1337" ∷ args))
     × AreClearParts args × (iterm_of args ≡ Some c)

@@ -3,7 +3,7 @@ ghost use Rattle.std.specs.Prelude.{◌≡◌, ◌&&◌, not, is_some, if◌then
 ghost use Rattle.std.specs.Fmt.{DisplaysOnOk};
 ghost use Rattle.std.specs.Option.{option_map, unwrap_or};
 ghost use Rattle.esc_values.specs.Base64.{base64_text};
-ghost use Rattle.esc_values.specs.Clear.{joined};
+ghost use Rattle.esc_values.specs.Clear.{semicolon_list};
 ghost use Rattle.esc_values.specs.Scalars.{some_if};
 ghost use Rattle.esc_iterm.specs.FileKeys.{entry, value_text};
 ghost use Rattle.esc_values.specs.Fields.{entries};
@@ -67,7 +67,7 @@ pub(crate) fn write_keys<W: fmt::Write, A: Allocator>(
     f: &mut fmt::Formatter<W>,
 ) -> fmt::Result
     ensures { DisplaysOnOk W.write_str_gives f.old result
-        (Some (joined (key_slices (entries file_fields file.now)))) f.new }
+        (Some (semicolon_list (key_slices (entries file_fields file.now)))) f.new }
 {
     let keys = [
         Key("size", Value::Size(file.size)),
@@ -90,7 +90,7 @@ pub(crate) fn write_keys<W: fmt::Write, A: Allocator>(
 // Writes the keys that have a value, with `;` between them.
 fn write_each<W: fmt::Write>(keys: &[Key<'_>], f: &mut fmt::Formatter<W>) -> fmt::Result
     ensures { DisplaysOnOk W.write_str_gives f.old result
-        (Some (joined (key_slices (map entry keys.now)))) f.new }
+        (Some (semicolon_list (key_slices (map entry keys.now)))) f.new }
 {
     let mut is_first = true;
     for key in keys {

@@ -4,7 +4,7 @@ use Rattle.std.specs.List.{list_all}
 use Rattle.std.specs.Option.{unwrap_or}
 use Rattle.esc_values.proofs.Signed.{signed_back_32}
 use Rattle.esc_kitty.specs.Images.{delete_of, image_by}
-use Rattle.esc_values.specs.Fields.{Values, is_bare, written}
+use Rattle.esc_values.specs.Fields.{Values, is_bare, present_pairs}
 use Rattle.esc_values.proofs.Fields.{find}
 use Rattle.esc_kitty.specs.Kinds.{IsNumber, IsOrder}
 use Rattle.esc_kitty.specs.Texts.{delete_keys, letter, named_keys, placed_keys}
@@ -75,7 +75,7 @@ delete_entries (ByImageIdRange x y d) q h =
     (letter_value d (codes "r") (codes "R") refl refl) h.0 h.1 tt
 
 delete_some : (w : KittyImageDelete) (q : KittyImageVerbosity)
-    → is_bare (written (delete_keys w q)) ≡ false
+    → is_bare (present_pairs (delete_keys w q)) ≡ false
 delete_some (All d) q = refl
 delete_some (ByImageId i p d) q = refl
 delete_some (ByImageNumber n p d) q = refl
@@ -153,7 +153,7 @@ pub deleted_back : {A : Type 0} (w : KittyImageDelete) (q : KittyImageVerbosity)
 deleted_back w q h =
     let keys = delete_keys w q in
     let v : Values = λ k. find k keys in
-    emits (image.Delete w q) (written keys) (delete_some w q)
+    emits (image.Delete w q) (present_pairs keys) (delete_some w q)
     (written_pairs keys (delete_entries w q h))
     (entries_image keys [] ∙ acts v [] q (codes "d") (delete_said w q)
     (ap (λ o. unwrap_or o (codes "t")) (delete_action w q))

@@ -4,7 +4,7 @@ use Rattle.std.specs.List.{list_all}
 use Rattle.std.specs.Option.{option_map}
 use Rattle.std.proofs.lemmas.List.Folds.{list_all-append}
 use Rattle.esc_values.specs.Cuts.{Pairs}
-use Rattle.esc_values.specs.Fields.{Entry, Field, FitAll, Values, entries, in_order, is_bare, values_of, written}
+use Rattle.esc_values.specs.Fields.{Entry, Field, FitAll, Values, entries, in_order, is_bare, values_of, present_pairs}
 use Rattle.esc_values.specs.Scalars.{and_then}
 use Rattle.esc_values.proofs.Fields.{entries_pass, find, names_pass, order_passes, reads_back as fields_back, texts, texts_at, with_some}
 use Rattle.esc_kitty.specs.Formats.{compose_fields, compose_made, compose_of, frame_fields, frame_made, frame_of, placement_fields, placement_made}
@@ -78,11 +78,11 @@ action_entries : (a : List ℕ) (q : KittyImageVerbosity) (es : List Entry)
 action_entries a q es word h =
     asked_entries a ((codes "q", verbosity_word q) ∷ es) word (said_entries q es h)
 
-asked_some : (a : List ℕ) (es : List Entry) → is_bare (written (asked_keys a es)) ≡ false
+asked_some : (a : List ℕ) (es : List Entry) → is_bare (present_pairs (asked_keys a es)) ≡ false
 asked_some a es = with_some (codes "a") a (in_order es)
 
 action_some : (a : List ℕ) (q : KittyImageVerbosity) (es : List Entry)
-    → is_bare (written (action_keys a q es)) ≡ false
+    → is_bare (present_pairs (action_keys a q es)) ≡ false
 action_some a q es = asked_some a ((codes "q", verbosity_word q) ∷ es)
 
 -- the structs
@@ -141,10 +141,11 @@ kept_back {A = A} t q h =
     let v : Values = λ k. find k keys in
     let sent : transmit_of v (content_text t.content) ≡ Some t =
     transmit_back v t h refl refl refl refl in
-    sends (image.TransmitData t q) (or_action (written keys)) (content_text t.content)
-    (or_some (written keys)) (or_pairs (written keys) (written_pairs keys (kept_entries t q h)))
+    sends (image.TransmitData t q) (or_action (present_pairs keys)) (content_text t.content)
+    (or_some (present_pairs keys))
+        (or_pairs (present_pairs keys) (written_pairs keys (kept_entries t q h)))
     (content_kept t.content h.0)
-    (or_image {A = A} (written keys) (content_text t.content)
+    (or_image {A = A} (present_pairs keys) (content_text t.content)
     ∙ entries_image keys (content_text t.content)
     ∙ acts v (content_text t.content) q (codes "t") refl refl
     ∙ rw sent refl)
@@ -157,7 +158,7 @@ asked_back t h =
     let v : Values = λ k. find k keys in
     let sent : transmit_of v (content_text t.content) ≡ Some t =
     transmit_back v t h refl refl refl refl in
-    sends (image.Query t) (written keys) (content_text t.content)
+    sends (image.Query t) (present_pairs keys) (content_text t.content)
     (asked_some (codes "q") (sent_keys t))
     (written_pairs keys (asked_entries (codes "q") (sent_keys t) refl (sent_entries t h)))
     (content_kept t.content h.0)
@@ -179,7 +180,7 @@ shown_back t p q h k =
     let v : Values = λ k. find k keys in
     let pass = action_entries (codes "T") q (entries placement_fields p ++ sent_keys t) refl
     (with_sent placement_fields p t refl k h) in
-    sends (image.TransmitDataAndDisplay t p q) (written keys) (content_text t.content)
+    sends (image.TransmitDataAndDisplay t p q) (present_pairs keys) (content_text t.content)
     (action_some (codes "T") q (entries placement_fields p ++ sent_keys t))
     (written_pairs keys pass) (content_kept t.content h.0)
     (entries_image keys (content_text t.content) ∙ acts v (content_text t.content) q (codes "T")
@@ -202,7 +203,7 @@ framed_back t f q h k =
     let v : Values = λ k. find k keys in
     let pass = action_entries (codes "f") q (entries frame_fields f ++ sent_keys t) refl
     (with_sent frame_fields f t refl k h) in
-    sends (image.TransmitFrame t f q) (written keys) (content_text t.content)
+    sends (image.TransmitFrame t f q) (present_pairs keys) (content_text t.content)
     (action_some (codes "f") q (entries frame_fields f ++ sent_keys t))
     (written_pairs keys pass) (content_kept t.content h.0)
     (entries_image keys (content_text t.content) ∙ acts v (content_text t.content) q (codes "f")
@@ -232,7 +233,7 @@ displayed_back : {A : Type 0} (i n : Option ℕ) (p : KittyImagePlacement) (q : 
 displayed_back i n p q hi hn k =
     let keys = display_keys i n p q in
     let v : Values = λ k. find k keys in
-    emits (image.Display i n p q) (written keys)
+    emits (image.Display i n p q) (present_pairs keys)
     (action_some (codes "p") q
     ((codes "i", number_text i) ∷ (codes "I", number_text n) ∷ entries placement_fields p))
     (written_pairs keys (display_entries i n p q hi hn k))
@@ -248,7 +249,7 @@ composed_back f q h =
     let composed : compose_of v ≡ Some f = compose_back v f h refl in
     let pass = action_entries (codes "c") q (entries compose_fields f) refl
     (fields_entries compose_fields f refl h) in
-    emits (image.ComposeFrame f q) (written keys)
+    emits (image.ComposeFrame f q) (present_pairs keys)
     (action_some (codes "c") q (entries compose_fields f)) (written_pairs keys pass)
     (entries_image keys [] ∙ acts v [] q (codes "c") refl refl ∙ rw composed refl)
 

@@ -14,7 +14,7 @@ use Rattle.esc_kitty.specs.Formats.{compose_fields, compose_made, compose_of, fr
 use Rattle.esc_kitty.specs.Formats.{placement_of, transmit_fields, transmit_made, transmit_with}
 use Rattle.esc_kitty.specs.Images.{content_by, content_of, delete_by, delete_in, delete_of, image_by, image_frame, image_in, image_of, image_shown}
 use Rattle.esc_kitty.specs.Images.{image_with, is_capital, keys_and_payload, transmit_of}
-use Rattle.esc_kitty.specs.Keys.{keys_of, number, signed}
+use Rattle.esc_kitty.specs.Keys.{keys_of, number, signed_number}
 use Rattle.esc_kitty.specs.Kinds.{IsNumber, IsOrder}
 use Rattle.esc_kitty.specs.Words.{is, verbosity_of}
 use Rattle.esc_kitty.specs.Writable.{IsWritableCompose, IsWritableContent, IsWritableDelete, IsWritableFrame, IsWritableImage, IsWritablePlacement}
@@ -34,7 +34,7 @@ use Rattle.esc_kitty.proofs.KindsLawful.{laws, number_fits, order_fits}
 read_number : (v : Values) (k : List ℕ) → IsNumber (number v k)
 read_number v k = number_fits (v k)
 
-read_signed : (v : Values) (k : List ℕ) → IsOrder (signed v k)
+read_signed : (v : Values) (k : List ℕ) → IsOrder (signed_number v k)
 read_signed v k = order_fits (v k)
 
 -- says that the content of an image is writable
@@ -107,15 +107,15 @@ two_good f good v =
 
 three_good : (d : Bool) (v : Values)
     → Where GoodDelete (and_then (number v (codes "x")) (λ x. and_then (number v (codes "y"))
-    (λ y. option_map (λ z. DeleteAtZ x y z d) (signed v (codes "z")))))
+    (λ y. option_map (λ z. DeleteAtZ x y z d) (signed_number v (codes "z")))))
 three_good d v =
     where_then Small GoodDelete (λ x.
     and_then (number v (codes "y")) (λ y.
-    option_map (λ z. DeleteAtZ x y z d) (signed v (codes "z"))))
+    option_map (λ z. DeleteAtZ x y z d) (signed_number v (codes "z"))))
     (λ x hx. where_then Small GoodDelete (λ y.
-    option_map (λ z. DeleteAtZ x y z d) (signed v (codes "z")))
+    option_map (λ z. DeleteAtZ x y z d) (signed_number v (codes "z")))
     (λ y hy. where_map (λ z. IsSigned 32 z) GoodDelete (λ z. DeleteAtZ x y z d) (λ z hz.
-    (hx, hy, hz)) (signed v (codes "z")) (read_signed v (codes "z")))
+    (hx, hy, hz)) (signed_number v (codes "z")) (read_signed v (codes "z")))
     (number v (codes "y")) (read_number v (codes "y")))
     (number v (codes "x")) (read_number v (codes "x"))
 
@@ -138,7 +138,7 @@ delete_by_good c d v =
     (where_if GoodDelete (c == 0x79) _ _ (where_map Small GoodDelete (λ y. DeleteRow y d) (λ y h.
     h) (number v (codes "y")) (read_number v (codes "y")))
     (where_if GoodDelete (c == 0x7a) _ _ (where_map (λ z. IsSigned 32 z) GoodDelete (λ z.
-    DeleteZ z d) (λ z h. h) (signed v (codes "z"))
+    DeleteZ z d) (λ z h. h) (signed_number v (codes "z"))
     (read_signed v (codes "z")))
     (where_if GoodDelete (c == 0x72) _ None (two_good (λ x y. ByImageIdRange x y d) (λ x y hx hy.
     (hx, hy)) v) tt))))))))))

@@ -1,7 +1,7 @@
 -- The keys of an image stand in the order of their bytes.
 use Rattle.std.proofs.Common.{◌≡◌, true, [], ◌∷◌, refl}
 use Rattle.esc_values.specs.Cuts.{Pairs}
-use Rattle.esc_values.specs.Fields.{ascends, written}
+use Rattle.esc_values.specs.Fields.{ascends, present_pairs}
 use Rattle.esc_values.proofs.Fields.{written_ascends}
 use Rattle.esc_kitty.specs.Texts.{compose_keys, delete_keys, display_keys, frame_keys, image_keys, or_action, query_keys, shown_keys, transmit_keys}
 use Rattle.esc_kitty.specs.declared.verbosity.KittyImageVerbosity.{KittyImageVerbosity}
@@ -16,7 +16,7 @@ or_ascends [] h = refl
 or_ascends (e ∷ es) h = h
 
 delete_ascends : (w : KittyImageDelete) (q : KittyImageVerbosity)
-    → ascends (written (delete_keys w q)) ≡ true
+    → ascends (present_pairs (delete_keys w q)) ≡ true
 delete_ascends (All d) q = written_ascends (delete_keys (All d) q) refl
 delete_ascends (ByImageId i p d) q = written_ascends (delete_keys (ByImageId i p d) q) refl
 delete_ascends (ByImageNumber n p d) q = written_ascends (delete_keys (ByImageNumber n p d) q) refl
@@ -32,7 +32,7 @@ delete_ascends (ByImageIdRange x y d) q =
 
 pub keys_ascend : {A : Type 0} (i : KittyImage A) → ascends (image_keys i) ≡ true
 keys_ascend (image.TransmitData t q) =
-    or_ascends (written (transmit_keys t q)) (written_ascends (transmit_keys t q) refl)
+    or_ascends (present_pairs (transmit_keys t q)) (written_ascends (transmit_keys t q) refl)
 keys_ascend (image.TransmitDataAndDisplay t p q) = written_ascends (shown_keys t p q) refl
 keys_ascend (image.Display i n p q) = written_ascends (display_keys i n p q) refl
 keys_ascend (image.Delete w q) = delete_ascends w q

@@ -11,7 +11,7 @@ use Rattle.base64.specs.Tables.{all_below}
 use Rattle.base64.proofs.Tables.{all_below_at}
 use Rattle.esc_values.specs.Clear.{IsClearPart}
 use Rattle.esc_values.specs.Cuts.{Pairs, cut_at, pair_text, pairs_in}
-use Rattle.esc_values.specs.Fields.{Entry, is_bare, values_of, with_value, written}
+use Rattle.esc_values.specs.Fields.{Entry, is_bare, values_of, with_value, present_pairs}
 use Rattle.esc_values.specs.Scalars.{IsSigned}
 use Rattle.esc_values.proofs.ClearPairs.{key_back}
 use Rattle.esc_values.proofs.Cutting.{Free, free_passes, cut_there, split_free}
@@ -178,15 +178,15 @@ with_pairs n (Some v) es k h r = (
   r,
 )
 
-pub written_pairs : (es : List Entry) → list_all is_entry es ≡ true → ArePairs (written es)
+pub written_pairs : (es : List Entry) → list_all is_entry es ≡ true → ArePairs (present_pairs es)
 written_pairs [] h = tt
 written_pairs (e ∷ es) h =
     let q = and_parts (is_entry e) (list_all is_entry es) h in
     let k = and_parts (list_all is_name e.0) (is_value e.1) q.0 in
-    with_pairs e.0 e.1 (written es) k.0 k.1 (written_pairs es q.1)
+    with_pairs e.0 e.1 (present_pairs es) k.0 k.1 (written_pairs es q.1)
 
 -- written keys are read as this image
 pub entries_image : {A : Type 0} (es : List Entry) (payload : List ℕ)
-    → image_in {A = A} (values_of (written es)) payload ≡ image_in (λ k. find k es) payload
+    → image_in {A = A} (values_of (present_pairs es)) payload ≡ image_in (λ k. find k es) payload
 entries_image {A = A} es payload =
     ap (λ v. image_in {A = A} v payload) (written_values es)

@@ -6,7 +6,7 @@ use Rattle.esc_values.specs.Cuts.{cut_at}
 use Rattle.esc_values.specs.Scalars.{and_then, utf8_of}
 use Rattle.esc_values.specs.Fields.{Values, values_of}
 use Rattle.esc_kitty.specs.Formats.{compose_of, frame_of, placement_of, transmit_with}
-use Rattle.esc_kitty.specs.Keys.{keys_of, number, signed}
+use Rattle.esc_kitty.specs.Keys.{keys_of, number, signed_number}
 use Rattle.esc_kitty.specs.Words.{is, verbosity_of}
 use Rattle.esc_kitty.specs.declared.verbosity.KittyImageVerbosity.{KittyImageVerbosity}
 use Rattle.esc_kitty.specs.declared.verbosity.KittyImageVerbosity.TheVariants.{Verbose}
@@ -59,13 +59,13 @@ delete_by c d v =
     option_map (λ y. DeleteAt x y d) (number v (codes "y")))
     -- q
     else if c == 0x71 then and_then (number v (codes "x")) (λ x. and_then (number v (codes "y"))
-    (λ y. option_map (λ z. DeleteAtZ x y z d) (signed v (codes "z"))))
+    (λ y. option_map (λ z. DeleteAtZ x y z d) (signed_number v (codes "z"))))
     -- x
     else if c == 0x78 then option_map (λ x. DeleteColumn x d) (number v (codes "x"))
     -- y
     else if c == 0x79 then option_map (λ y. DeleteRow y d) (number v (codes "y"))
     -- z
-    else if c == 0x7a then option_map (λ z. DeleteZ z d) (signed v (codes "z"))
+    else if c == 0x7a then option_map (λ z. DeleteZ z d) (signed_number v (codes "z"))
     -- r
     else if c == 0x72 then and_then (number v (codes "x")) (λ x.
     option_map (λ y. ByImageIdRange x y d) (number v (codes "y")))

@@ -22,8 +22,8 @@ values ps = values_of (pairs ps)
 abbrev pub number : Values → List ℕ → Option ℕ
 number v k = and_then (v k) (number_of 32)
 
-abbrev pub signed : Values → List ℕ → Option ℤ
-signed v k = and_then (v k) (signed_of 32)
+abbrev pub signed_number : Values → List ℕ → Option ℤ
+signed_number v k = and_then (v k) (signed_of 32)
 
 -- the same, where 0 counts as absent too
 abbrev pub not_zero : Option ℕ → Option ℕ

@@ -6,7 +6,7 @@ use Rattle.std.specs.List.{flat_map}
 use Rattle.std.specs.Option.{option_map}
 use Rattle.esc_values.specs.Base64.{base64_text}
 use Rattle.esc_values.specs.Cuts.{Pairs, pair_text}
-use Rattle.esc_values.specs.Fields.{Entry, entries, in_order, written}
+use Rattle.esc_values.specs.Fields.{Entry, entries, in_order, present_pairs}
 use Rattle.esc_kitty.specs.Formats.{compose_fields, frame_fields, placement_fields, transmit_fields}
 use Rattle.esc_kitty.specs.Kinds.{number_text, signed_text}
 use Rattle.esc_kitty.specs.Words.{verbosity_word}
@@ -174,13 +174,13 @@ or_action (e ∷ es) = e ∷ es
 
 -- the keys of an image
 abbrev pub image_keys : {A : Type 0} → KittyImage A → Pairs
-image_keys (image.TransmitData t q) = or_action (written (transmit_keys t q))
-image_keys (image.TransmitDataAndDisplay t p q) = written (shown_keys t p q)
-image_keys (image.Display i n p q) = written (display_keys i n p q)
-image_keys (image.Delete w q) = written (delete_keys w q)
-image_keys (image.Query t) = written (query_keys t)
-image_keys (image.TransmitFrame t f q) = written (frame_keys t f q)
-image_keys (image.ComposeFrame f q) = written (compose_keys f q)
+image_keys (image.TransmitData t q) = or_action (present_pairs (transmit_keys t q))
+image_keys (image.TransmitDataAndDisplay t p q) = present_pairs (shown_keys t p q)
+image_keys (image.Display i n p q) = present_pairs (display_keys i n p q)
+image_keys (image.Delete w q) = present_pairs (delete_keys w q)
+image_keys (image.Query t) = present_pairs (query_keys t)
+image_keys (image.TransmitFrame t f q) = present_pairs (frame_keys t f q)
+image_keys (image.ComposeFrame f q) = present_pairs (compose_keys f q)
 
 -- `;` and the payload, wherever something is transmitted
 abbrev pub payload_text : {A : Type 0} → KittyImage A → List ℕ

@@ -5,7 +5,7 @@ ghost use Rattle.std.specs.List.{slice_split};
 ghost use Rattle.std.specs.Option.{option_map};
 ghost use Rattle.esc_values.specs.Cuts.{pairs_in};
 ghost use Rattle.fallible_alloc.specs.Refusals.{Refused};
-ghost use Rattle.esc_kitty.specs.Keys.{keys_of, not_zero, number, pairs, signed, values};
+ghost use Rattle.esc_kitty.specs.Keys.{keys_of, not_zero, number, pairs, signed_number, values};
 ghost use Rattle.esc_kitty.specs.Words.{flag_of};
 
 use esc_values::cut::key_and_value;
@@ -93,7 +93,7 @@ pub(crate) fn number(pairs: &[Pair<'_>], key: u8) -> Option<u32>
 
 // Returns the signed number of a key, if there is one that can be read.
 pub(crate) fn signed(pairs: &[Pair<'_>], key: u8) -> Option<i32>
-    ensures { result ≡ signed (values pairs.now) (key ∷ []) }
+    ensures { result ≡ signed_number (values pairs.now) (key ∷ []) }
 {
     match value(pairs, key) {
         Some(digits) => read_i32(digits.as_bytes()),

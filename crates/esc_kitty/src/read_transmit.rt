@@ -6,7 +6,7 @@ ghost use Rattle.std.specs.Option.{option_map};
 ghost use Rattle.esc_values.specs.Base64.{base64_text_of};
 ghost use Rattle.esc_values.specs.Scalars.{utf8_of};
 ghost use Rattle.esc_kitty.specs.Images.{content_by, content_of, transmit_of};
-ghost use Rattle.esc_kitty.specs.Media.{named};
+ghost use Rattle.esc_kitty.specs.Media.{named_content};
 ghost use Rattle.esc_kitty.specs.declared.content.KittyImageData.TheVariants.{Direct};
 
 use crate::compression::KittyImageCompression;
@@ -115,7 +115,8 @@ fn read_named<A: Allocator>(
     data_offset: Option<u32>,
     payload: &[u8],
 ) -> Result<Option<KittyImageData<A>>, AllocError>
-    ensures ok { IfOk result (λ o. o ≡ option_map (λ t. named medium t data_size data_offset)
+    ensures ok
+        { IfOk result (λ o. o ≡ option_map (λ t. named_content medium t data_size data_offset)
         (base64_text_of payload.now)) }
     ensures refused { OnErr result (Refused A) }
 {
@@ -141,7 +142,7 @@ impl Medium {
         data_size: Option<u32>,
         data_offset: Option<u32>,
     ) -> KittyImageData<A>
-        ensures { result ≡ named self name data_size data_offset }
+        ensures { result ≡ named_content self name data_size data_offset }
     {
         match self {
             Medium::File => KittyImageData::File {

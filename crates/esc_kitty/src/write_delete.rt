@@ -2,7 +2,7 @@
 ghost use Rattle.std.specs.Prelude.{◌≡◌, ◌-◌, ◌≤◌, [], ◌∷◌, Some};
 ghost use Rattle.std.specs.Char.{encode_utf8};
 ghost use Rattle.std.specs.Fmt.{DisplaysOnOk};
-ghost use Rattle.esc_values.specs.Fields.{written};
+ghost use Rattle.esc_values.specs.Fields.{present_pairs};
 ghost use Rattle.esc_kitty.specs.Texts.{delete_keys, keys_text, letter, named_keys, placed_keys};
 
 use crate::delete::KittyImageDelete;
@@ -18,7 +18,7 @@ pub(crate) fn write_delete<W: fmt::Write>(
     f: &mut fmt::Formatter<W>,
 ) -> fmt::Result
     ensures { DisplaysOnOk W.write_str_gives f.old result
-        (Some (keys_text (written (delete_keys what.now verbosity)))) f.new }
+        (Some (keys_text (present_pairs (delete_keys what.now verbosity)))) f.new }
 {
     match *what {
         KittyImageDelete::All { delete } => {
@@ -108,7 +108,8 @@ fn write_named<W: fmt::Write>(
 ) -> fmt::Result
     requires { (0x61 ≤ small) × (small ≤ 0x7a) }
     ensures { DisplaysOnOk W.write_str_gives f.old result
-        (Some (keys_text (written (named_keys (letter delete (small ∷ []) ((small - 0x20) ∷ []))
+        (Some (keys_text
+        (present_pairs (named_keys (letter delete (small ∷ []) ((small - 0x20) ∷ []))
         image_number image_id placement_id verbosity)))) f.new }
 {
     let keys = [
@@ -134,7 +135,8 @@ fn write_placed<W: fmt::Write>(
 ) -> fmt::Result
     requires { (0x61 ≤ small) × (small ≤ 0x7a) }
     ensures { DisplaysOnOk W.write_str_gives f.old result
-        (Some (keys_text (written (placed_keys (letter delete (small ∷ []) ((small - 0x20) ∷ []))
+        (Some (keys_text
+        (present_pairs (placed_keys (letter delete (small ∷ []) ((small - 0x20) ∷ []))
         x y z verbosity)))) f.new }
 {
     let keys = [

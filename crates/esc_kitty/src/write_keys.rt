@@ -2,7 +2,7 @@
 ghost use Rattle.std.specs.Prelude.{◌≡◌, ◌&&◌, not, [], map, Some};
 ghost use Rattle.std.specs.Fmt.{DisplaysOnOk};
 ghost use Rattle.std.specs.Option.{is_some, option_map, unwrap_or};
-ghost use Rattle.esc_values.specs.Fields.{is_bare, written};
+ghost use Rattle.esc_values.specs.Fields.{is_bare, present_pairs};
 ghost use Rattle.esc_kitty.specs.Texts.{entry, entry_text, keys_text, separator, value_text};
 ghost use Rattle.esc_kitty.specs.Words.{flag_word};
 
@@ -78,7 +78,7 @@ fn is_still_first(is_first: bool, key: &Key<'_>) -> bool
 // Writes the keys that have a value, with `,` between them.
 pub(crate) fn write_keys<W: fmt::Write>(keys: &[Key<'_>], f: &mut fmt::Formatter<W>) -> fmt::Result
     ensures { DisplaysOnOk W.write_str_gives f.old result
-        (Some (keys_text (written (map entry keys.now)))) f.new }
+        (Some (keys_text (present_pairs (map entry keys.now)))) f.new }
 {
     let mut is_first = true;
     for key in keys {
@@ -90,7 +90,7 @@ pub(crate) fn write_keys<W: fmt::Write>(keys: &[Key<'_>], f: &mut fmt::Formatter
 
 // Returns whether no key is written.
 pub(crate) fn is_bare(keys: &[Key<'_>]) -> bool
-    ensures { result ≡ is_bare (written (map entry keys.now)) }
+    ensures { result ≡ is_bare (present_pairs (map entry keys.now)) }
 {
     for key in keys {
         if key.1.is_written() {

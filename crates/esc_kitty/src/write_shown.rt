@@ -1,7 +1,7 @@
 //! This module writes images that were transmitted before.
 ghost use Rattle.std.specs.Prelude.{Some};
 ghost use Rattle.std.specs.Fmt.{DisplaysOnOk};
-ghost use Rattle.esc_values.specs.Fields.{written};
+ghost use Rattle.esc_values.specs.Fields.{present_pairs};
 ghost use Rattle.esc_kitty.specs.Texts.{compose_keys, display_keys, keys_text};
 
 use crate::compose::KittyImageFrameCompose;
@@ -21,7 +21,7 @@ pub(crate) fn write_display<W: fmt::Write>(
 ) -> fmt::Result
     ensures { DisplaysOnOk W.write_str_gives f.old result
         (Some (keys_text
-        (written (display_keys image_id image_number placement.now verbosity)))) f.new }
+        (present_pairs (display_keys image_id image_number placement.now verbosity)))) f.new }
 {
     let keys = [
         Key('C', Word(flag_word(placement.do_not_move_cursor))),
@@ -51,7 +51,7 @@ pub(crate) fn write_compose<W: fmt::Write>(
     f: &mut fmt::Formatter<W>,
 ) -> fmt::Result
     ensures { DisplaysOnOk W.write_str_gives f.old result
-        (Some (keys_text (written (compose_keys frame.now verbosity)))) f.new }
+        (Some (keys_text (present_pairs (compose_keys frame.now verbosity)))) f.new }
 {
     let keys = [
         Key('C', Word(frame.composition_mode.word())),

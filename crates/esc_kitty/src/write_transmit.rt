@@ -1,7 +1,7 @@
 //! This module writes images with their pixels.
 ghost use Rattle.std.specs.Prelude.{map, Some};
 ghost use Rattle.std.specs.Fmt.{DisplaysOnOk};
-ghost use Rattle.esc_values.specs.Fields.{written};
+ghost use Rattle.esc_values.specs.Fields.{present_pairs};
 ghost use Rattle.esc_kitty.specs.Texts.{entry, frame_keys, keys_text, or_action, query_keys, shown_keys, transmit_keys};
 
 use crate::format::KittyImageFormat;
@@ -21,7 +21,8 @@ pub(crate) fn write_transmit<A: Allocator, W: fmt::Write>(
     f: &mut fmt::Formatter<W>,
 ) -> fmt::Result
     ensures { DisplaysOnOk W.write_str_gives f.old result
-        (Some (keys_text (or_action (written (transmit_keys transmit.now verbosity))))) f.new }
+        (Some (keys_text (or_action (present_pairs (transmit_keys transmit.now verbosity))))) f.new
+        }
 {
     let content = &transmit.content;
     let keys = [
@@ -43,7 +44,7 @@ pub(crate) fn write_transmit<A: Allocator, W: fmt::Write>(
 // Writes the keys, or `a=t` if none is written.
 fn write_or_action<W: fmt::Write>(keys: &[Key<'_>], f: &mut fmt::Formatter<W>) -> fmt::Result
     ensures { DisplaysOnOk W.write_str_gives f.old result
-        (Some (keys_text (or_action (written (map entry keys.now))))) f.new }
+        (Some (keys_text (or_action (present_pairs (map entry keys.now))))) f.new }
 {
     if is_bare(keys) {
         return f.write_str("a=t");
@@ -57,7 +58,7 @@ pub(crate) fn write_query<A: Allocator, W: fmt::Write>(
     f: &mut fmt::Formatter<W>,
 ) -> fmt::Result
     ensures { DisplaysOnOk W.write_str_gives f.old result
-        (Some (keys_text (written (query_keys transmit.now)))) f.new }
+        (Some (keys_text (present_pairs (query_keys transmit.now)))) f.new }
 {
     let content = &transmit.content;
     let keys = [
@@ -84,7 +85,7 @@ pub(crate) fn write_shown<A: Allocator, W: fmt::Write>(
     f: &mut fmt::Formatter<W>,
 ) -> fmt::Result
     ensures { DisplaysOnOk W.write_str_gives f.old result
-        (Some (keys_text (written (shown_keys transmit.now placement.now verbosity)))) f.new }
+        (Some (keys_text (present_pairs (shown_keys transmit.now placement.now verbosity)))) f.new }
 {
     let content = &transmit.content;
     let keys = [
@@ -124,7 +125,7 @@ pub(crate) fn write_frame<A: Allocator, W: fmt::Write>(
     f: &mut fmt::Formatter<W>,
 ) -> fmt::Result
     ensures { DisplaysOnOk W.write_str_gives f.old result
-        (Some (keys_text (written (frame_keys transmit.now frame.now verbosity)))) f.new }
+        (Some (keys_text (present_pairs (frame_keys transmit.now frame.now verbosity)))) f.new }
 {
     let content = &transmit.content;
     let keys = [

@@ -3,7 +3,7 @@ use Rattle.std.proofs.Common.{ℕ, ◌≡◌, ◌≢◌, ◌==◌, List, [], ◌
 use Rattle.std.specs.List.{slice_split}
 use Rattle.std.specs.Option.{option_map}
 use Rattle.std.proofs.lemmas.List.{append-nil}
-use Rattle.esc_values.specs.Clear.{IsClearText, IsClearPart, AreClearParts, AreTextParts, parts_of, joined}
+use Rattle.esc_values.specs.Clear.{IsClearText, IsClearPart, AreClearParts, AreTextParts, parts_of, semicolon_list}
 use Rattle.esc_values.specs.Cuts.{Pairs}
 use Rattle.esc_links.specs.declared.hyperlink.Hyperlink.{Hyperlink}
 use Rattle.esc_links.specs.Hyperlinks.{params_of, params_text, link_to, link_in, link_of, link_text}
@@ -14,15 +14,15 @@ use Rattle.esc_values.proofs.PlainParts.{plain_part}
 use Rattle.esc_values.proofs.Split.{parts_text}
 use Rattle.esc_values.proofs.Where.{Where}
 
-text_of : (p1 p2 : List ℕ) → joined (codes "8" ∷ p1 ∷ p2 ∷ []) ≡ codes "8;" ++ (p1 ++ 0x3b ∷ p2)
+text_of : (p1 p2 : List ℕ) → semicolon_list (codes "8" ∷ p1 ∷ p2 ∷ []) ≡ codes "8;" ++ (p1 ++ 0x3b ∷ p2)
 text_of p1 p2 = ap (λ t. codes "8;" ++ (p1 ++ 0x3b ∷ t)) (append-nil p2)
 
 not_one : (p q r : List ℕ) → p ∷ q ∷ r ∷ [] ≢ [] ∷ []
 not_one p q r e = cc
 
 text_parts_of : (p1 p2 : List ℕ) → IsClearPart p1 → IsClearPart p2
-    → IsClearText (joined (codes "8" ∷ p1 ∷ p2 ∷ []))
-    × (parts_of (joined (codes "8" ∷ p1 ∷ p2 ∷ [])) ≡ codes "8" ∷ p1 ∷ p2 ∷ [])
+    → IsClearText (semicolon_list (codes "8" ∷ p1 ∷ p2 ∷ []))
+    × (parts_of (semicolon_list (codes "8" ∷ p1 ∷ p2 ∷ [])) ≡ codes "8" ∷ p1 ∷ p2 ∷ [])
 text_parts_of p1 p2 h k =
     parts_text (codes "8" ∷ p1 ∷ p2 ∷ []) (
       (plain_part (codes "8") refl, (h, (k, tt))),
@@ -33,7 +33,7 @@ module _ {A : Type 0} where
   -- the parts of a link's text are `8`, and two clear parts that are read as that link
   abbrev pub ReadsAs : Option (Hyperlink A) → Type 0
   ReadsAs v = (p1 : List ℕ) × (p2 : List ℕ) × IsClearPart p1 × IsClearPart p2
-      × (joined (codes "8" ∷ p1 ∷ p2 ∷ []) ≡ link_text v) × (link_in p1 p2 ≡ Some v)
+      × (semicolon_list (codes "8" ∷ p1 ∷ p2 ∷ []) ≡ link_text v) × (link_in p1 p2 ≡ Some v)
 
 module _ (A : Type 0) where
   -- a link without parameters

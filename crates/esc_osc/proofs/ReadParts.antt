@@ -9,7 +9,7 @@ use Rattle.std.specs.Str.Lossy.{utf8_lossy}
 use Rattle.std.proofs.lemmas.Str.{length-encode, len_utf8_bounds}
 use Rattle.std.proofs.lemmas.Bool.{cases_Bool}
 use Rattle.esc_values.specs.Base64.{base64_text_of}
-use Rattle.esc_values.specs.Clear.{IsClearText, IsClearPart, AreClearParts, AreTextParts, joined}
+use Rattle.esc_values.specs.Clear.{IsClearText, IsClearPart, AreClearParts, AreTextParts, semicolon_list}
 use Rattle.esc_values.specs.Scalars.{and_then, utf8_of}
 use Rattle.esc_values.proofs.Split.{joined_clear}
 use Rattle.esc_values.proofs.ClearTexts.{part_lossy, parts_lossy, tail_part}
@@ -37,7 +37,8 @@ use Rattle.esc_osc_values.specs.declared.progress.Progress.{Progress}
 title_clear : (args : List (List ℕ)) → AreClearParts args
     → Where (λ t. IsClearText t) (title_of args)
 title_clear [] h = tt
-title_clear (p ∷ ps) h = utf8_keeps (λ t. IsClearText t) (joined (p ∷ ps)) (joined_clear (p ∷ ps) h)
+title_clear (p ∷ ps) h =
+    utf8_keeps (λ t. IsClearText t) (semicolon_list (p ∷ ps)) (joined_clear (p ∷ ps) h)
 
 lone_clear : (args : List (List ℕ)) → AreClearParts args
     → Where (λ t. IsClearPart t) (lone_text args)

@@ -25,7 +25,7 @@ use Rattle.esc_osc_values.proofs.Selections.{selection_back, selection_part, bas
 use Rattle.esc_osc.proofs.Written.{Written, written_clear, written_back, code_part, one_written, two_written}
 use Rattle.esc_osc_values.specs.Codes.{code_text, change_code, reset_code}
 use Rattle.esc_osc_values.specs.Colors.{spec_text}
-use Rattle.esc_osc.specs.Commands.{inner_text, titled}
+use Rattle.esc_osc.specs.Commands.{inner_text, title_command}
 use Rattle.esc_osc.specs.Reading.{meaning, reading}
 use Rattle.esc_osc_values.specs.Selections.{selection_text}
 use Rattle.esc_osc.specs.Writable.{IsWritable}
@@ -43,7 +43,7 @@ use Rattle.esc_osc_values.specs.declared.selection.Selection.{Selection}
 
 -- a title after its code
 entitled : (A : Type 0) (k : OperatingSystemCommandCode) (t : List ℕ) (c : OperatingSystemCommand A)
-    → IsClearText t → inner_text c ≡ titled k t
+    → IsClearText t → inner_text c ≡ title_command k t
     → reading k (code_text k) (slice_split (λ c. c == 0x3b) t) ≡ Some c → Written A c
 entitled A k t c h is e = record {
   code = k;

@@ -3,13 +3,13 @@ use Rattle.std.proofs.Common.{ℕ, ◌≡◌, ◌≢◌, List, [], ◌∷◌, �
 use Rattle.std.specs.Option.{unwrap_or}
 use Rattle.std.proofs.lemmas.List.{append-nil}
 use Rattle.std.proofs.lemmas.Str.{utf8_lossy-IsUtf8}
-use Rattle.esc_values.specs.Clear.{IsClearText, IsClearPart, AreClearParts, AreTextParts, joined, parts_of}
+use Rattle.esc_values.specs.Clear.{IsClearText, IsClearPart, AreClearParts, AreTextParts, semicolon_list, parts_of}
 use Rattle.esc_values.proofs.PlainParts.{plain_part}
 use Rattle.esc_values.proofs.Split.{joined_clear, parts_text}
 use Rattle.esc_values.proofs.ClearTexts.{part_utf8}
 use Rattle.esc_osc_values.proofs.Codes.{code_of-code_text, code_plain, code_some, code_name_text}
 use Rattle.esc_osc_values.specs.Codes.{code_text}
-use Rattle.esc_osc.specs.Commands.{inner_text, titled}
+use Rattle.esc_osc.specs.Commands.{inner_text, title_command}
 use Rattle.esc_osc.specs.Reading.{meaning, fitting, reading}
 use Rattle.esc_osc_values.specs.declared.code.OperatingSystemCommandCode.{OperatingSystemCommandCode}
 use Rattle.esc_osc.specs.declared.command.OperatingSystemCommand.{OperatingSystemCommand}
@@ -31,7 +31,7 @@ code_means k args = rw (
 pub record Written (A : Type 0) (c : OperatingSystemCommand A) : Type 0 where
   pub code : OperatingSystemCommandCode
   pub args : List (List ℕ)
-  pub text : inner_text c ≡ joined (code_text code ∷ args)
+  pub text : inner_text c ≡ semicolon_list (code_text code ∷ args)
   pub clear : AreClearParts args
   pub reads : reading {A = A} code (code_text code) args ≡ Some c
 
@@ -59,9 +59,9 @@ written_back A c w =
 
 -- one part after the code, and two
 pub one_written : (k : OperatingSystemCommandCode) (t : List ℕ)
-    → titled k t ≡ joined (code_text k ∷ t ∷ [])
+    → title_command k t ≡ semicolon_list (code_text k ∷ t ∷ [])
 one_written k t = ap (λ x. code_text k ++ 0x3b ∷ x) (sym (append-nil t))
 
 pub two_written : (k : OperatingSystemCommandCode) (x y : List ℕ)
-    → titled k (x ++ 0x3b ∷ y) ≡ joined (code_text k ∷ x ∷ y ∷ [])
+    → title_command k (x ++ 0x3b ∷ y) ≡ semicolon_list (code_text k ∷ x ∷ y ∷ [])
 two_written k x y = ap (λ z. code_text k ++ 0x3b ∷ (x ++ 0x3b ∷ z)) (sym (append-nil y))

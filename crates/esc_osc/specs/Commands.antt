@@ -19,8 +19,8 @@ use Rattle.esc_osc.specs.declared.command.OperatingSystemCommand.{OperatingSyste
 use Rattle.esc_osc.specs.declared.command.OperatingSystemCommand.TheVariants as command
 
 -- a code, `;` and a title
-abbrev pub titled : OperatingSystemCommandCode → List ℕ → List ℕ
-titled c t = code_text c ++ 0x3b ∷ t
+abbrev pub title_command : OperatingSystemCommandCode → List ℕ → List ℕ
+title_command c t = code_text c ++ 0x3b ∷ t
 
 -- a code and items, each after a `;`
 abbrev pub listed_text : {X : Type 0} → OperatingSystemCommandCode → (X → List ℕ) → List X → List ℕ
@@ -28,27 +28,29 @@ listed_text c f xs = code_text c ++ flat_map (λ x. 0x3b ∷ f x) xs
 
 -- the text between `ESC ]` and the string terminator
 abbrev pub inner_text : {A : Type 0} → OperatingSystemCommand A → List ℕ
-inner_text (command.SetIconNameAndWindowTitle t) = titled code.SetIconNameAndWindowTitle t
-inner_text (command.SetWindowTitle t) = titled code.SetWindowTitle t
+inner_text (command.SetIconNameAndWindowTitle t) = title_command code.SetIconNameAndWindowTitle t
+inner_text (command.SetWindowTitle t) = title_command code.SetWindowTitle t
 inner_text (command.SetWindowTitleSun t) = code_text code.SetWindowTitleSun ++ t
-inner_text (command.SetIconName t) = titled code.SetIconName t
+inner_text (command.SetIconName t) = title_command code.SetIconName t
 inner_text (command.SetIconNameSun t) = code_text code.SetIconNameSun ++ t
 inner_text (command.SetHyperlink h) = link_text h
-inner_text (command.ClearSelection s) = titled code.ManipulateSelectionData (selection_text s.0)
+inner_text (command.ClearSelection s) =
+    title_command code.ManipulateSelectionData (selection_text s.0)
 inner_text (command.QuerySelection s) =
-    titled code.ManipulateSelectionData (selection_text s.0 ++ codes ";?")
+    title_command code.ManipulateSelectionData (selection_text s.0 ++ codes ";?")
 inner_text (command.SetSelection s t) =
-    titled code.ManipulateSelectionData (selection_text s.0 ++ 0x3b ∷ base64_text t)
-inner_text (command.SystemNotification t) = titled code.SystemNotification t
+    title_command code.ManipulateSelectionData (selection_text s.0 ++ 0x3b ∷ base64_text t)
+inner_text (command.SystemNotification t) = title_command code.SystemNotification t
 inner_text (command.ITermProprietary c) = iterm_text c
 inner_text (command.FinalTermSemanticPrompt p) = prompt_text p
-inner_text (command.ChangeColorNumber ps) = titled code.ChangeColorNumber (joined_by pair_text ps)
+inner_text (command.ChangeColorNumber ps) =
+    title_command code.ChangeColorNumber (joined_by pair_text ps)
 inner_text (command.ChangeDynamicColors n cs) = listed_text (change_code n) spec_text cs
 inner_text (command.ResetDynamicColor n) = code_text (reset_code n)
-inner_text (command.CurrentWorkingDirectory t) = titled code.SetCurrentWorkingDirectory t
+inner_text (command.CurrentWorkingDirectory t) = title_command code.SetCurrentWorkingDirectory t
 inner_text (command.ResetColors ns) = listed_text code.ResetColors decimal ns
 inner_text (command.RxvtExtension ts) = listed_text code.RxvtProprietary (λ t. t) ts
-inner_text (command.ConEmuProgress p) = titled code.SystemNotification (progress_text p)
+inner_text (command.ConEmuProgress p) = title_command code.SystemNotification (progress_text p)
 inner_text (command.Unspecified ps) = joined_by utf8_lossy ps
 
 -- a code whose text the title follows at once
@@ -59,7 +61,7 @@ IsLetter c = (c ≡ code.SetWindowTitleSun) ⊎ (c ≡ code.SetIconNameSun)
 -- of a letter
 abbrev pub IsUnder : OperatingSystemCommandCode → List ℕ → Type 0
 IsUnder c t = (t ≡ code_text c)
-    ⊎ (((rest : List ℕ) × (t ≡ titled c rest))
+    ⊎ (((rest : List ℕ) × (t ≡ title_command c rest))
     ⊎ (IsLetter c × ((rest : List ℕ) × (t ≡ code_text c ++ rest))))
 
 -- parts that are kept as they are

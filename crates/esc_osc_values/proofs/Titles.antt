@@ -3,7 +3,7 @@ use Rattle.std.proofs.Common.{ℕ, ◌≡◌, Bool, true, false, cond, ◌==◌,
 use Rattle.std.specs.List.{slice_split, onto_first}
 use Rattle.std.specs.Str.{IsUtf8}
 use Rattle.std.proofs.lemmas.Str.{is_utf8-from_IsUtf8}
-use Rattle.esc_values.specs.Clear.{IsClearText, AreClearParts, joined, separated_parts}
+use Rattle.esc_values.specs.Clear.{IsClearText, AreClearParts, semicolon_list, separated_parts}
 use Rattle.esc_values.proofs.PlainParts.{plain_part}
 use Rattle.esc_values.proofs.Split.{text_parts, joined_split}
 use Rattle.esc_osc_values.specs.Lists.{title_of}
@@ -26,7 +26,7 @@ split_head (b ∷ t) = split_more b t (b == 0x3b) (split_head t)
 pub title_split : (t : List ℕ) → IsUtf8 t → title_of (slice_split (λ c. c == 0x3b) t) ≡ Some t
 title_split t u =
     let s = split_head t in
-    let j : joined (s.0 ∷ s.1) ≡ t = ap joined (sym s.2) ∙ joined_split t in
+    let j : semicolon_list (s.0 ∷ s.1) ≡ t = ap semicolon_list (sym s.2) ∙ joined_split t in
     rw s.2 (rw (j, is_utf8-from_IsUtf8 t u) refl)
 
 pub title_parts : (t : List ℕ) → IsClearText t → AreClearParts (slice_split (λ c. c == 0x3b) t)
@@ -36,5 +36,5 @@ title_parts (b ∷ t) h = (text_parts (b ∷ t) h).0
 pub title_text : (t : List ℕ) → 0x3b ∷ t ≡ separated_parts (slice_split (λ c. c == 0x3b) t)
 title_text t =
     let s = split_head t in
-    let j : joined (s.0 ∷ s.1) ≡ t = ap joined (sym s.2) ∙ joined_split t in
+    let j : semicolon_list (s.0 ∷ s.1) ≡ t = ap semicolon_list (sym s.2) ∙ joined_split t in
     rw s.2 (ap (λ u. 0x3b ∷ u) (sym j))

@@ -2,13 +2,13 @@
 use Rattle.std.specs.Prelude.{ℕ, ◌==◌, if◌then◌else◌, List, [], ◌∷◌, ◌++◌, length, Option, Some, None}
 use Rattle.std.specs.List.{flat_map}
 use Rattle.std.specs.Option.{option_map}
-use Rattle.esc_values.specs.Clear.{joined}
+use Rattle.esc_values.specs.Clear.{semicolon_list}
 use Rattle.esc_values.specs.Scalars.{and_then, utf8_of, number_of}
 
 -- the parts joined by `;`, where there is one and they are a text
 abbrev pub title_of : List (List ℕ) → Option (List ℕ)
 title_of [] = None
-title_of (p ∷ ps) = utf8_of (joined (p ∷ ps))
+title_of (p ∷ ps) = utf8_of (semicolon_list (p ∷ ps))
 
 -- the text of one part alone
 abbrev pub lone_text : List (List ℕ) → Option (List ℕ)

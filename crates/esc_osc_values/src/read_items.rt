@@ -1,7 +1,7 @@
 //! This module reads lists of parts. An error is that memory was refused.
 ghost use Rattle.std.specs.Prelude.{◌≡◌, ◌∷◌, IfOk, OnErr, drop, map};
 ghost use Rattle.std.specs.Str.Lossy.{utf8_lossy};
-ghost use Rattle.esc_values.specs.Clear.{joined};
+ghost use Rattle.esc_values.specs.Clear.{semicolon_list};
 ghost use Rattle.esc_values.specs.Scalars.{utf8_of};
 ghost use Rattle.esc_osc_values.specs.Colors.{colors_of, pairs_of};
 ghost use Rattle.esc_osc_values.specs.Lists.{lone_text, numbers_of, title_of};
@@ -45,7 +45,8 @@ pub fn read_title<A: Allocator + Copy>(
 
 // Returns a part and those after it, with `;` between them.
 fn joined<A: Allocator>(alloc: A, first: &[u8], rest: &[&[u8]]) -> Result<Vec<u8, A>, AllocError>
-    ensures ok { IfOk result (λ b. b.items ≡ joined (first.now ∷ map (λ p. p.now) rest.now)) }
+    ensures ok
+        { IfOk result (λ b. b.items ≡ semicolon_list (first.now ∷ map (λ p. p.now) rest.now)) }
     ensures refused { OnErr result (Refused A) }
 {
     let mut bytes = fallible_alloc::copied(alloc, first)?;

@@ -15,7 +15,7 @@ use Rattle.esc_screen.specs.declared.content.Content.{Content}
 use Rattle.esc_screen.specs.declared.content.Content.TheVariants as content
 use Rattle.esc_screen.specs.declared.marks.Marks.{Marks}
 use Rattle.esc_paint.specs.Pieces.{Piece, character, erase_all, erase_right, look, piece_text, pieces_text, place, soft_reset}
-use Rattle.esc_paint.specs.Painting.{cells_pieces, content_pieces, cursor_pieces, drawn_pieces, is_waiting, marks_pieces, paint_pieces, painted, pen_by, row_again, row_pieces, rows_pieces}
+use Rattle.esc_paint.specs.Painting.{cells_pieces, content_pieces, cursor_pieces, drawn_pieces, is_waiting, marks_pieces, paint_pieces, painting_text, pen_by, row_again, row_pieces, rows_pieces}
 use Rattle.esc_paint.specs.Differences.{change_pieces, here_pen, is_other, rest_pieces, row_changes, rows_changes, same_cells, same_screen, same_size}
 use Rattle.esc_paint.specs.Laws.{AllLookPlain, IsBounded, IsPaintable, LookPlain}
 use Rattle.esc_paint.proofs.Pieces.{AllFit, Fits}
@@ -247,7 +247,7 @@ abbrev most : Size → ℕ
 most s = (s.rows + 1) * (5 * s.columns + 2) + 2
 
 painted_short : (k : ℕ → Look) (s : Size) (h : Grid) → IsPaintable k s h
-    → length (painted k s h) ≤ 14 * most s
+    → length (painting_text k s h) ≤ 14 * most s
 painted_short k s h can =
     let on = can.sound.cursor in
     text_short (paint_pieces k s h) (most s)
@@ -268,7 +268,7 @@ led_short false f k s xss h can =
     (led_few k f s xss h can.sound.rows on can.plain)
 
 by_size : (t : Bool) (f k : ℕ → Look) (q s : Size) (g h : Grid) → IsPaintable k s h
-    → length (if t then pieces_text (change_pieces f k q s g h) else painted k s h)
+    → length (if t then pieces_text (change_pieces f k q s g h) else painting_text k s h)
     ≤ 14 * most s
 by_size true f k q s g h can = led_short (same_screen f k q s g h) f k s g.rows h can
 by_size false f k q s g h can = painted_short k s h can

@@ -5,7 +5,7 @@ use Rattle.esc_style.specs.declared.look.Look.{Look}
 use Rattle.esc_screen.specs.Grids.{Grid, Size}
 use Rattle.esc_screen.specs.declared.cell.Cell.{Cell}
 use Rattle.esc_paint.specs.Pieces.{erase_right, piece_text, pieces_text, place, soft_reset}
-use Rattle.esc_paint.specs.Painting.{cells_pieces, cursor_pieces, painted}
+use Rattle.esc_paint.specs.Painting.{cells_pieces, cursor_pieces, painting_text}
 use Rattle.esc_paint.specs.Differences.{change_pieces, difference, here_pen, is_other, rest_pieces, row_changes, rows_changes, same_cells, same_rows, same_screen, same_size}
 use Rattle.esc_paint.proofs.Writing.{pieces_two}
 
@@ -61,14 +61,14 @@ other_row f k r n xss yss less is =
 -- ---- all of it
 
 pub other_size : (f k : ℕ → Look) (q s : Size) (g h : Grid) → same_size q s ≡ false
-    → difference f k q s g h ≡ painted k s h
+    → difference f k q s g h ≡ painting_text k s h
 other_size f k q s g h is =
-    ap (λ t. if t then pieces_text (change_pieces f k q s g h) else painted k s h) is
+    ap (λ t. if t then pieces_text (change_pieces f k q s g h) else painting_text k s h) is
 
 pub none_text : (f k : ℕ → Look) (q s : Size) (g h : Grid) → same_size q s ≡ true
     → same_screen f k q s g h ≡ true → difference f k q s g h ≡ []
 none_text f k q s g h is all =
-    ap (λ t. if t then pieces_text (change_pieces f k q s g h) else painted k s h) is
+    ap (λ t. if t then pieces_text (change_pieces f k q s g h) else painting_text k s h) is
     ∙ ap (λ t. pieces_text (if t then [] else soft_reset
     ∷ (rows_changes f k g.rows h.rows 0 s.rows ++ cursor_pieces k s h))) all
 
@@ -84,5 +84,5 @@ some_text f k q s g h t is other =
     ∙ append_assoc t (piece_text soft_reset) (pieces_text rows ++ pieces_text last)
     ∙ ap (λ z. t ++ (piece_text soft_reset ++ z)) (sym (pieces_two rows last))
     ∙ ap (λ b. t ++ pieces_text (if b then [] else soft_reset ∷ (rows ++ last))) (sym other)
-    ∙ ap (λ b. t ++ (if b then pieces_text (change_pieces f k q s g h) else painted k s h))
+    ∙ ap (λ b. t ++ (if b then pieces_text (change_pieces f k q s g h) else painting_text k s h))
     (sym is)

@@ -19,7 +19,7 @@ use Rattle.esc_screen.specs.declared.cell.Cell.{Cell}
 use Rattle.esc_terminal.specs.Laws.{GoesOn, IsAlwaysSound, IsAlwaysWhole}
 use Rattle.esc_terminal.specs.Streams.{shown_after, shown_of, values_of}
 use Rattle.esc_paint.specs.Pieces.{Piece, piece_step, pieces_text, soft_reset}
-use Rattle.esc_paint.specs.Painting.{cursor_pieces, is_waiting, painted}
+use Rattle.esc_paint.specs.Painting.{cursor_pieces, is_waiting, painting_text}
 use Rattle.esc_paint.specs.Differences.{change_pieces, difference, differences, is_other, last_grid, rows_changes, same_cursor, same_rows, same_screen, same_size}
 use Rattle.esc_paint.specs.Laws.{ArePaintable, IsPaintable, Leads, LeadsOn, LeadsOver, SaysNothing, ShowsSame, contents_of}
 use Rattle.esc_paint.proofs.Changing.{none_text}
@@ -90,7 +90,8 @@ size_same s = both_same _ _ (number_same s.rows) (number_same s.columns)
 by_size : (f k : ℕ → Look) (s : Size) (g h : Grid)
     → difference f k s s g h ≡ pieces_text (change_pieces f k s s g h)
 by_size f k s g h =
-    ap (λ t. if t then pieces_text (change_pieces f k s s g h) else painted k s h) (size_same s)
+    ap (λ t. if t then pieces_text (change_pieces f k s s g h) else painting_text k s h)
+        (size_same s)
 
 -- the pieces are read, and lead there
 abbrev Goes : (f k : ℕ → Look) → Size → Grid → Grid → Grid → List Piece → Type 0

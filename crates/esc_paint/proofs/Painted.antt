@@ -19,7 +19,7 @@ use Rattle.esc_terminal.specs.Looks.{erased_look}
 use Rattle.esc_terminal.specs.Steps.{print_step}
 use Rattle.esc_paint.specs.Pieces.{Piece, character, erase_right, look, piece_step}
 use Rattle.esc_paint.specs.declared.pen.Pen.{Pen}
-use Rattle.esc_paint.specs.Painting.{blank_pieces, cells_pieces, drawn_pieces, content_pieces, looked, marks_pieces, pen_blank, pen_by, pen_drawn, placed}
+use Rattle.esc_paint.specs.Painting.{blank_pieces, cells_pieces, drawn_pieces, content_pieces, look_change, marks_pieces, pen_blank, pen_by, pen_drawn, place_change}
 use Rattle.esc_paint.specs.Drawn.{AreDrawn, AreMarks, IsDrawn, IsMarked}
 use Rattle.esc_paint.proofs.Rows.{Has, begins_free, has_at, has_erased, has_mark, has_narrow, has_selected, has_wide}
 
@@ -80,7 +80,7 @@ module _ (number : Look → ℕ) (same : (a b : Look) → same_look a b ≡ true
 
     has_placed : (l e : ℕ) (here : Bool) (n : ℕ) (xs : List Cell) (g : Grid) → n < s.columns
         → Has s above below l e here n xs g
-        → Has s above below l e true n xs (run g (placed here r n))
+        → Has s above below l e true n xs (run g (place_change here r n))
     has_placed l e true n xs g less h = h
     has_placed l e false n xs g less h = has_at s above below l e false n n xs g h less
 
@@ -97,7 +97,7 @@ module _ (number : Look → ℕ) (same : (a b : Look) → same_look a b ≡ true
 
     has_looked : (a b : Look) (here : Bool) (n : ℕ) (xs : List Cell) (g : Grid)
         → HasIn above below a here n xs g
-        → HasIn above below b here n xs (run g (looked a b))
+        → HasIn above below b here n xs (run g (look_change a b))
     has_looked a b here n xs g h = looked_by (same_look a b) a b here n xs g (same a b) h
 
     -- ---- marks
@@ -205,18 +205,21 @@ module _ (number : Look → ℕ) (same : (a b : Look) → same_look a b ≡ true
     -- the cursor at a cell, and the look of a character
     ready : (p : Pen) (l : Look) (n : ℕ) (xs : List Cell) (g : Grid) → n < s.columns
         → HasIn above below p.look p.here n xs g
-        → HasIn above below l true n xs (run (run g (placed p.here r n)) (looked p.look l))
+        → HasIn above below l true n xs
+            (run (run g (place_change p.here r n)) (look_change p.look l))
     ready p l n xs g less h =
-        has_looked p.look l true n xs (run g (placed p.here r n))
+        has_looked p.look l true n xs (run g (place_change p.here r n))
         (has_placed (number p.look) (number (erased_look p.look)) p.here n xs g less h)
 
     drawn_run : (n : ℕ) (p : Pen) (c : ℕ) (m : Marks) (l : Look) (g : Grid)
         → run g (drawn_pieces r n p c m l)
-        ≡ run (run (run (run g (placed p.here r n)) (looked p.look l)) (character c ∷ []))
+        ≡ run (run (run (run g (place_change p.here r n)) (look_change p.look l))
+            (character c ∷ []))
         (marks_pieces m)
     drawn_run n p c m l g =
-        run_two g (placed p.here r n) (looked p.look l ++ (character c ∷ marks_pieces m))
-        ∙ run_two (run g (placed p.here r n)) (looked p.look l) (character c ∷ marks_pieces m)
+        run_two g (place_change p.here r n) (look_change p.look l ++ (character c ∷ marks_pieces m))
+        ∙ run_two (run g (place_change p.here r n)) (look_change p.look l)
+            (character c ∷ marks_pieces m)
 
     -- a character of one column
     narrow_done : (p : Pen) (l : Look) (c : ℕ) (m : Marks) (done ys : List Cell) (x : Cell)
@@ -228,7 +231,7 @@ module _ (number : Look → ℕ) (same : (a b : Look) → same_look a b ≡ true
         (run g (drawn_pieces r (length done) p c m l))
     narrow_done p l c m done ys x g less here next is marked h =
         let n = length done in
-        let at = run (run g (placed p.here r n)) (looked p.look l) in
+        let at = run (run g (place_change p.here r n)) (look_change p.look l) in
         let there = ready p l n (done ++ x ∷ ys) g less h in
         let put : HasIn above below l true (n + 1) (done ++ drawn_cell (number l) c ∷ ys)
         (run at (character c ∷ [])) =
@@ -264,7 +267,7 @@ module _ (number : Look → ℕ) (same : (a b : Look) → same_look a b ≡ true
     wide_done p l c m done ys x y g less here next is marked h =
         let n = length done in
         let rest = cell content.Rest (number l) in
-        let at = run (run g (placed p.here r n)) (looked p.look l) in
+        let at = run (run g (place_change p.here r n)) (look_change p.look l) in
         let there = ready p l n (done ++ x ∷ y ∷ ys) g (omega (arith, less)) h in
         let first = cell (content.Wide c no_marks) (number l) in
         let two : n + 2 ≡ n + 1 + 1 = omega arith in
@@ -298,10 +301,11 @@ module _ (number : Look → ℕ) (same : (a b : Look) → same_look a b ≡ true
 
     -- a blank one
     erase_run : (n : ℕ) (p : Pen) (b : Look) (g : Grid)
-        → run g (placed p.here r n ++ (looked p.look b ++ (erase_right ∷ [])))
-        ≡ run (run (run g (placed p.here r n)) (looked p.look b)) (erase_right ∷ [])
-    erase_run n p b g = run_two g (placed p.here r n) (looked p.look b ++ (erase_right ∷ []))
-        ∙ run_two (run g (placed p.here r n)) (looked p.look b) (erase_right ∷ [])
+        → run g (place_change p.here r n ++ (look_change p.look b ++ (erase_right ∷ [])))
+        ≡ run (run (run g (place_change p.here r n)) (look_change p.look b)) (erase_right ∷ [])
+    erase_run n p b g =
+        run_two g (place_change p.here r n) (look_change p.look b ++ (erase_right ∷ []))
+        ∙ run_two (run g (place_change p.here r n)) (look_change p.look b) (erase_right ∷ [])
 
     abbrev blanked : Bool → Look → Pen → Pen
     blanked t b p = if t then record p { here = false }
@@ -313,7 +317,7 @@ module _ (number : Look → ℕ) (same : (a b : Look) → same_look a b ≡ true
 
     abbrev blanking : Bool → ℕ → Pen → Look → List Piece
     blanking t n p b = if t then []
-        else placed p.here r n ++ (looked p.look b ++ (erase_right ∷ []))
+        else place_change p.here r n ++ (look_change p.look b ++ (erase_right ∷ []))
 
     blank_by : (t : Bool) (p : Pen) (l : Look) (k : ℕ) (done : List Cell) (g : Grid)
         → (t ≡ true → number p.back ≡ number (erased_look l)) → length done + suc k ≡ s.columns
@@ -333,7 +337,7 @@ module _ (number : Look → ℕ) (same : (a b : Look) → same_look a b ≡ true
         let n = length done in
         let b = erased_look l in
         let ys = replicate (suc k) (blank (number p.back)) in
-        let at = run (run g (placed p.here r n)) (looked p.look b) in
+        let at = run (run g (place_change p.here r n)) (look_change p.look b) in
         let none : n + 0 ≡ n = omega arith in
         let less : n < s.columns = omega (arith, all) in
         let many : length ys ≡ suc k = length-replicate (suc k) (blank (number p.back)) in

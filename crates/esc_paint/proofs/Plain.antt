@@ -13,7 +13,7 @@ use Rattle.esc_screen.specs.declared.content.Content.TheVariants as content
 use Rattle.esc_screen.specs.declared.marks.Marks.{Marks}
 use Rattle.esc_paint.specs.declared.pen.Pen.{Pen}
 use Rattle.esc_paint.specs.Pieces.{Piece, character, place, soft_reset}
-use Rattle.esc_paint.specs.Painting.{cells_pieces, content_pieces, cursor_pieces, drawn_pieces, is_waiting, marks_pieces, paint_pieces, pen_by, placed, row_again, row_pieces, rows_pieces}
+use Rattle.esc_paint.specs.Painting.{cells_pieces, content_pieces, cursor_pieces, drawn_pieces, is_waiting, marks_pieces, paint_pieces, pen_by, place_change, row_again, row_pieces, rows_pieces}
 use Rattle.esc_paint.specs.Differences.{is_other, rest_pieces, row_changes, rows_changes, same_cells}
 use Rattle.esc_paint.specs.Drawn.{AllDrawn, AreDrawn, AreMarks, IsDrawn, IsMarked}
 use Rattle.esc_paint.specs.Laws.{AllLookPlain, LookPlain}
@@ -52,14 +52,14 @@ marks_fit (Some a) None true h = absurd h
 marks_fit (Some a) (Some b) false h = (h.0.1, (h.1.1, tt))
 marks_fit (Some a) (Some b) true h = (h.0.1, (h.1.1, (h.0.1, tt)))
 
-placed_fit : (b : Bool) (r n : ℕ) → r < 65536 → n < 65536 → AllFit (placed b r n)
+placed_fit : (b : Bool) (r n : ℕ) → r < 65536 → n < 65536 → AllFit (place_change b r n)
 placed_fit true r n h k = tt
 placed_fit false r n h k = ((h, k), tt)
 
 drawn_fit : (b : Bool) (r n c : ℕ) (m : Marks) → r < 65536 → n < 65536 → is_clear c ≡ true
     → IsMarked m → AllFit (drawn_pieces r n (plain_pen b) c m plain_look)
 drawn_fit b r n c m h k clear marked =
-    fit_two (placed b r n) (character c ∷ marks_pieces m) (placed_fit b r n h k)
+    fit_two (place_change b r n) (character c ∷ marks_pieces m) (placed_fit b r n h k)
     (clear, marks_fit m.first m.second m.others marked)
 
 module _ (f : ℕ → Look) where

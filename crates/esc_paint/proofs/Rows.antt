@@ -3,12 +3,12 @@ use Rattle.std.proofs.Common.{ℕ, ◌≡◌, ◌+◌, ◌-◌, ◌<◌, ◌≤�
 use Rattle.std.proofs.lemmas.Bool.{cases_Bool}
 use Rattle.std.proofs.lemmas.Bool.Decides.{nat_tests}
 use Rattle.std.proofs.lemmas.List.{drop-append-le, drop_all, get_or_at, get_or-append-add, get_or_past, length_push, set_at, take-append-le, take_all}
-use Rattle.esc_screen.specs.Cells.{blank, cell, cleared_cells, cut_row, drawn_cell, erased_cells, inserted_cells, is_rest, mark_at, marked_cell, marked_cells, no_marks, put, put_wide, start_of}
+use Rattle.esc_screen.specs.Cells.{blank, cell, cleared_cells, cut_row, drawn_cell, erased_cells, inserted_cells, is_rest, mark_at, marked_cell, marked_cells, no_marks, cells_with, put_wide, start_of}
 use Rattle.esc_screen.specs.Cursors.{draws}
 use Rattle.esc_screen.specs.Grids.{Grid, Size, grid_at, in_row, next_line, settled_grid, with_cursor}
 use Rattle.esc_screen.specs.Lists.{in_part}
 use Rattle.esc_screen.specs.Motions.{row_by}
-use Rattle.esc_screen.specs.Printing.{column_before, grid_past, grid_with_room, has_before, has_room, is_direct, joined, printed_wide, wide_put, wrapped_grid, wrapped_wide}
+use Rattle.esc_screen.specs.Printing.{column_before, grid_past, grid_with_room, has_before, has_room, is_direct, row_gone_on, printed_wide, wide_put, wrapped_grid, wrapped_wide}
 use Rattle.esc_screen.specs.Steps.{grid_by}
 use Rattle.esc_screen.specs.declared.cell.Cell.{Cell}
 use Rattle.esc_screen.specs.declared.content.Content.TheVariants as content
@@ -192,7 +192,7 @@ free_at p ys n e h =
     ∙ ap is_rest (get_or-append-add p ys 0 (blank 0)) ∙ not_rest _ h
 
 pub put_is : (n l c : ℕ) (p ys : List Cell) (x : Cell) → length p ≡ n → is_rest x ≡ false
-    → begins_free ys ≡ true → put n l c (p ++ x ∷ ys) ≡ p ++ drawn_cell l c ∷ ys
+    → begins_free ys ≡ true → cells_with n l c (p ++ x ∷ ys) ≡ p ++ drawn_cell l c ∷ ys
 put_is n l c p ys x e here next =
     let xs = p ++ x ∷ ys in
     let first : is_rest (get_or xs n (blank 0)) ≡ false = free_at p (x ∷ ys) n e (ap not here) in
@@ -239,12 +239,12 @@ has_narrow s above below l e c p ys x g h less here next =
     let k = h.cursor refl in
     let m = before_last s (length above) n g.cursor k less in
     let fits : g.cursor.column + 1 ≤ s.columns = omega (arith, m.0) in
-    let f = put g.cursor.column g.cursor.look c in
+    let f = cells_with g.cursor.column g.cursor.look c in
     let is : grid_by s g (step.Print c) ≡ grid_past s 1 (in_row f g) =
     run_is s (c ∷ []) g m.1 h.draws.direct (omega arith) fits in
     let row : f (p ++ x ∷ ys) ≡ p ++ drawn_cell l c ∷ ys =
-    ap (λ i. put i g.cursor.look c (p ++ x ∷ ys)) m.0
-    ∙ ap (λ i. put n i c (p ++ x ∷ ys)) h.draws.look ∙ put_is n l c p ys x refl here next in
+    ap (λ i. cells_with i g.cursor.look c (p ++ x ∷ ys)) m.0
+    ∙ ap (λ i. cells_with n i c (p ++ x ∷ ys)) h.draws.look ∙ put_is n l c p ys x refl here next in
     let at = lands s 1 (in_row f g) m.1 h.draws.wraps fits in
     let place = (grid_past s 1 (in_row f g)).cursor in
     subst (Has s above below l e true (n + 1) (p ++ drawn_cell l c ∷ ys)) (sym is) (record {
@@ -271,7 +271,8 @@ wide_direct s c g ready direct less =
     ap (λ b. b && (g.modes.wraps || nat_lt (g.cursor.column + 1) s.columns)) some
     ∙ either (nat_lt (g.cursor.column + 1) s.columns) g.modes.wraps more in
     let wrapped : wrapped_wide s g ≡ g =
-    ap (λ b. if b then wrapped_grid s g else next_line s (joined g)) more ∙ not_wrapped s g ready in
+    ap (λ b. if b then wrapped_grid s g else next_line s (row_gone_on g)) more ∙ not_wrapped s g
+        ready in
     let roomy : grid_with_room s 2 g ≡ g =
     ap (λ b. if b then in_row (inserted_cells g.cursor.erased 2 g.cursor.column s.columns) g else g)
     (inserts_not g.modes.inserts (not (draws g.cursor)) direct) in

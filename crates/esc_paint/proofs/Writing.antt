@@ -10,7 +10,7 @@ use Rattle.esc_screen.specs.declared.cell.Cell.{Cell}
 use Rattle.esc_screen.specs.declared.marks.Marks.{Marks}
 use Rattle.esc_paint.specs.declared.pen.Pen.{Pen}
 use Rattle.esc_paint.specs.Pieces.{Piece, character, erase_all, erase_right, look, piece_text, pieces_text, place, soft_reset}
-use Rattle.esc_paint.specs.Painting.{blank_pieces, cells_pieces, content_pieces, cursor_pieces, drawn_pieces, is_waiting, looked, mark_pieces, marks_pieces, painted, pen_by, placed, row_again, row_pieces, rows_pieces}
+use Rattle.esc_paint.specs.Painting.{blank_pieces, cells_pieces, content_pieces, cursor_pieces, drawn_pieces, is_waiting, look_change, mark_pieces, marks_pieces, painting_text, pen_by, place_change, row_again, row_pieces, rows_pieces}
 
 pub pieces_two : (ps qs : List Piece) → pieces_text (ps ++ qs) ≡ pieces_text ps ++ pieces_text qs
 pieces_two [] qs = refl
@@ -20,7 +20,7 @@ pieces_two (p ∷ ps) qs = ap (λ z. piece_text p ++ z) (pieces_two ps qs)
 pub one_piece : (p : Piece) → pieces_text (p ∷ []) ≡ piece_text p
 one_piece p = append-nil (piece_text p)
 
-pub looked_text : (a b : Look) → pieces_text (looked a b) ≡ change_text a b
+pub looked_text : (a b : Look) → pieces_text (look_change a b) ≡ change_text a b
 looked_text a b = by_test (same_look a b)
   where
     by_test : (t : Bool) → pieces_text (if t then [] else look b ∷ [])
@@ -49,28 +49,28 @@ marks_text m =
 
 pub drawn_text : (r n : ℕ) (p : Pen) (c : ℕ) (m : Marks) (l : Look)
     → pieces_text (drawn_pieces r n p c m l)
-    ≡ pieces_text (placed p.here r n) ++ (pieces_text (looked p.look l)
+    ≡ pieces_text (place_change p.here r n) ++ (pieces_text (look_change p.look l)
     ++ (encode_utf8 c ++ pieces_text (marks_pieces m)))
 drawn_text r n p c m l =
-    pieces_two (placed p.here r n) (looked p.look l ++ (character c ∷ marks_pieces m))
-    ∙ ap (λ z. pieces_text (placed p.here r n) ++ z)
-    (pieces_two (looked p.look l) (character c ∷ marks_pieces m))
+    pieces_two (place_change p.here r n) (look_change p.look l ++ (character c ∷ marks_pieces m))
+    ∙ ap (λ z. pieces_text (place_change p.here r n) ++ z)
+    (pieces_two (look_change p.look l) (character c ∷ marks_pieces m))
 
 pub blank_text : (r n : ℕ) (p : Pen) (b : Look) → same_look p.back b ≡ false
     → pieces_text (blank_pieces r n p b)
-    ≡ pieces_text (placed p.here r n) ++ (pieces_text (looked p.look b)
+    ≡ pieces_text (place_change p.here r n) ++ (pieces_text (look_change p.look b)
     ++ (0x1b ∷ 0x5b ∷ 0x4b ∷ []))
 blank_text r n p b h =
-    ap (λ t. pieces_text (if t then [] else placed p.here r n ++ (looked p.look b
+    ap (λ t. pieces_text (if t then [] else place_change p.here r n ++ (look_change p.look b
     ++ (erase_right ∷ [])))) h
-    ∙ pieces_two (placed p.here r n) (looked p.look b ++ (erase_right ∷ []))
-    ∙ ap (λ z. pieces_text (placed p.here r n) ++ z)
-    (pieces_two (looked p.look b) (erase_right ∷ []))
+    ∙ pieces_two (place_change p.here r n) (look_change p.look b ++ (erase_right ∷ []))
+    ∙ ap (λ z. pieces_text (place_change p.here r n) ++ z)
+    (pieces_two (look_change p.look b) (erase_right ∷ []))
 
 pub blank_none : (r n : ℕ) (p : Pen) (b : Look) → same_look p.back b ≡ true
     → pieces_text (blank_pieces r n p b) ≡ []
 blank_none r n p b h =
-    ap (λ t. pieces_text (if t then [] else placed p.here r n ++ (looked p.look b
+    ap (λ t. pieces_text (if t then [] else place_change p.here r n ++ (look_change p.look b
     ++ (erase_right ∷ [])))) h
 
 -- ---- a cell more, and a row more
@@ -90,7 +90,7 @@ cell_more f t r i p xs d less x is =
 
 pub cells_end : (f : ℕ → Look) (t : List ℕ) (r i : ℕ) (p : Pen) (xs : List Cell)
     → length xs ≤ i
-    → t ++ pieces_text (looked p.look plain_look)
+    → t ++ pieces_text (look_change p.look plain_look)
     ≡ t ++ pieces_text (cells_pieces f r i p (drop i xs))
 cells_end f t r i p xs all =
     ap (λ z. t ++ pieces_text (cells_pieces f r i p z)) (sym (drop_all i xs all))
@@ -138,7 +138,7 @@ cursor_there f s g h = ap pieces_text (cursor_by f s g false h)
 pub paint_text : (f : ℕ → Look) (s : Size) (g : Grid) (t : List ℕ)
     → ((t ++ (piece_text soft_reset ++ piece_text erase_all))
     ++ pieces_text (rows_pieces f g.rows 0 s.rows)) ++ pieces_text (cursor_pieces f s g)
-    ≡ t ++ painted f s g
+    ≡ t ++ painting_text f s g
 paint_text f s g t =
     let a = piece_text soft_reset ++ piece_text erase_all in
     let rows = rows_pieces f g.rows 0 s.rows in

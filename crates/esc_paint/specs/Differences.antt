@@ -12,7 +12,7 @@ use Rattle.esc_screen.specs.declared.marks.Marks.{Marks}
 use Rattle.esc_terminal.specs.Looks.{erased_look}
 use Rattle.esc_paint.specs.declared.pen.Pen.{Pen}
 use Rattle.esc_paint.specs.Pieces.{Piece, erase_right, pieces_text, place, soft_reset}
-use Rattle.esc_paint.specs.Painting.{cells_pieces, cursor_pieces, first_pen, is_blank_content, is_waiting, painted}
+use Rattle.esc_paint.specs.Painting.{cells_pieces, cursor_pieces, first_pen, is_blank_content, is_waiting, painting_text}
 
 -- ---- cells
 
@@ -112,7 +112,7 @@ same_size q s = q.rows == s.rows && q.columns == s.columns
 -- their cells stand for these looks: if the other one has another size, the whole is painted.
 abbrev pub difference : (ℕ → Look) → (ℕ → Look) → Size → Size → Grid → Grid → List ℕ
 difference f k q s g h = if same_size q s then pieces_text (change_pieces f k q s g h)
-    else painted k s h
+    else painting_text k s h
 
 -- ---- screens, one after another
 

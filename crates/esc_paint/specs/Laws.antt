@@ -11,7 +11,7 @@ use Rattle.esc_screen.specs.declared.content.Content.{Content}
 use Rattle.esc_terminal.specs.Streams.{Shown, shown_after, shown_of, values_of}
 use Rattle.esc_paint.specs.Drawn.{AllDrawn}
 use Rattle.esc_paint.specs.Differences.{difference, differences, last_grid}
-use Rattle.esc_paint.specs.Painting.{is_waiting, painted}
+use Rattle.esc_paint.specs.Painting.{is_waiting, painting_text}
 
 -- the contents of the cells of rows
 abbrev pub contents_of : List (List Cell) → List (List Content)
@@ -48,18 +48,18 @@ pub record ShowsSame (s : Size) (g h : Grid) : Type 0 where
 abbrev pub Paints : Type 0 → Type 0
 Paints A = (f : ℕ → Look) (s : Size) (t : Shown) (g : Grid) → IsSound s t.grid
     → IsPaintable f s g
-    → ShowsSame s g (shown_after s t (values_of A (painted f s g))).grid
+    → ShowsSame s g (shown_after s t (values_of A (painting_text f s g))).grid
 
 -- and so a new one
 abbrev pub PaintsNew : Type 0 → Type 0
 PaintsNew A = (f : ℕ → Look) (s : Size) (g : Grid) → IsPaintable f s g
-    → ShowsSame s g (shown_of A s (painted f s g)).grid
+    → ShowsSame s g (shown_of A s (painting_text f s g)).grid
 
 -- and one that was fed a stream with nothing unfinished
 abbrev pub PaintsOver : Type 0 → Type 0
 PaintsOver A = (f : ℕ → Look) (s : Size) (b : List ℕ) (g : Grid) → IsAtGround b
     → IsPaintable f s g
-    → ShowsSame s g (shown_of A s (b ++ painted f s g)).grid
+    → ShowsSame s g (shown_of A s (b ++ painting_text f s g)).grid
 
 -- ---- differences
 

@@ -24,12 +24,12 @@ first_pen = record {
 -- ---- cells
 
 -- the cursor goes to a row and a column, if it is not there
-abbrev pub placed : Bool → ℕ → ℕ → List Piece
-placed here r n = if here then [] else place r n ∷ []
+abbrev pub place_change : Bool → ℕ → ℕ → List Piece
+place_change here r n = if here then [] else place r n ∷ []
 
 -- the look of characters that come becomes another
-abbrev pub looked : Look → Look → List Piece
-looked a b = if same_look a b then [] else look b ∷ []
+abbrev pub look_change : Look → Look → List Piece
+look_change a b = if same_look a b then [] else look b ∷ []
 
 abbrev pub mark_pieces : Option ℕ → List Piece
 mark_pieces None = []
@@ -43,7 +43,7 @@ marks_pieces m = mark_pieces m.first
 -- a character in a row and a column, with its marks and its look
 abbrev pub drawn_pieces : ℕ → ℕ → Pen → ℕ → Marks → Look → List Piece
 drawn_pieces r n p c m l =
-    placed p.here r n ++ (looked p.look l ++ (character c ∷ marks_pieces m))
+    place_change p.here r n ++ (look_change p.look l ++ (character c ∷ marks_pieces m))
 
 abbrev pub pen_drawn : Look → Pen → Pen
 pen_drawn l p = record p { here = true; look = l }
@@ -51,7 +51,7 @@ pen_drawn l p = record p { here = true; look = l }
 -- a blank cell: the rest of the row is erased, if it looks otherwise
 abbrev pub blank_pieces : ℕ → ℕ → Pen → Look → List Piece
 blank_pieces r n p b = if same_look p.back b then []
-    else placed p.here r n ++ (looked p.look b ++ (erase_right ∷ []))
+    else place_change p.here r n ++ (look_change p.look b ++ (erase_right ∷ []))
 
 abbrev pub pen_blank : Look → Pen → Pen
 pen_blank b p = if same_look p.back b then record p { here = false }
@@ -78,7 +78,7 @@ pen_by p l content.Rest = p
 
 -- cells from a column on, each with the look of its number; then characters look plain
 abbrev pub cells_pieces : (ℕ → Look) → ℕ → ℕ → Pen → List Cell → List Piece
-cells_pieces f r n p [] = looked p.look plain_look
+cells_pieces f r n p [] = look_change p.look plain_look
 cells_pieces f r n p (x ∷ xs) = content_pieces r n p (f x.look) x.content
     ++ cells_pieces f r (n + 1) (pen_by p (f x.look) x.content) xs
 
@@ -122,5 +122,5 @@ paint_pieces f s g =
     soft_reset ∷ erase_all ∷ (rows_pieces f g.rows 0 s.rows ++ cursor_pieces f s g)
 
 -- the text that paints a grid of this size, if the numbers of cells stand for these looks
-abbrev pub painted : (ℕ → Look) → Size → Grid → List ℕ
-painted f s g = pieces_text (paint_pieces f s g)
+abbrev pub painting_text : (ℕ → Look) → Size → Grid → List ℕ
+painting_text f s g = pieces_text (paint_pieces f s g)

@@ -1,6 +1,6 @@
 //! The text that paints a screen.
 ghost use Rattle.std.specs.Prelude.{◌≡◌, ◌++◌, OnErr, OnOk, string_bytes};
-ghost use Rattle.esc_paint.specs.Painting.{cursor_pieces, ends_drawn, is_waiting, painted, rows_pieces};
+ghost use Rattle.esc_paint.specs.Painting.{cursor_pieces, ends_drawn, is_waiting, painting_text, rows_pieces};
 ghost use Rattle.esc_screen.specs.Grids.{row_of_cursor};
 ghost use Rattle.esc_paint.specs.Pieces.{pieces_text};
 ghost use Rattle.esc_screen.specs.Screens.{grid_of, size_of};
@@ -30,7 +30,7 @@ pub fn push_painting<A: Allocator, B: Allocator>(
     styles: &Styles<B>,
 ) -> Result<(), AllocError>
     ensures ok { OnOk result (string_bytes text.new ≡ string_bytes text.old
-        ++ painted (λ n. known_look n (known_of styles.now)) (size_of screen.now)
+        ++ painting_text (λ n. known_look n (known_of styles.now)) (size_of screen.now)
         (grid_of screen.now)) }
     ensures refused { OnErr result (Refused A) }
 {

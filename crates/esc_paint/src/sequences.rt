@@ -1,6 +1,6 @@
 //! The sequences and characters that paint.
 ghost use Rattle.std.specs.Prelude.{◌≡◌, ◌++◌, ◌<◌, ◌^◌, OnErr, OnOk, string_bytes};
-ghost use Rattle.esc_paint.specs.Painting.{looked, mark_pieces, marks_pieces, placed};
+ghost use Rattle.esc_paint.specs.Painting.{look_change, mark_pieces, marks_pieces, place_change};
 ghost use Rattle.esc_paint.specs.Pieces.{piece_text, pieces_text};
 ghost use Rattle.esc_paint.specs.Pieces.Piece.{place};
 ghost use Rattle.fallible_alloc.specs.Refusals.{Refused};
@@ -40,7 +40,7 @@ pub(crate) fn push_placed<A: Allocator>(
 ) -> Result<(), AllocError>
     requires { column < 2 ^ 63 }
     ensures ok { OnOk result (string_bytes text.new
-        ≡ string_bytes text.old ++ pieces_text (placed here row column)) }
+        ≡ string_bytes text.old ++ pieces_text (place_change here row column)) }
     ensures refused { OnErr result (Refused A) }
 {
     if here {
@@ -58,7 +58,7 @@ pub(crate) fn push_looked<A: Allocator>(
     to: &Look,
 ) -> Result<(), AllocError>
     ensures ok { OnOk result (string_bytes text.new
-        ≡ string_bytes text.old ++ pieces_text (looked from.now to.now)) }
+        ≡ string_bytes text.old ++ pieces_text (look_change from.now to.now)) }
     ensures refused { OnErr result (Refused A) }
 {
     esc_sgr::push_change(text, from, to)

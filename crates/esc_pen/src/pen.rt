@@ -1,7 +1,7 @@
 //! This module says how characters are written from here on.
 ghost use Rattle.std.specs.Prelude.{◌≡◌, ◌∷◌, [], IsTrue};
 ghost use Rattle.esc_pen.specs.Pens.{pen_by, pen_by_all, pen_by_optional, plain_pen};
-ghost use Rattle.typed_functions.specs.Selections.{left, selection_of, selections};
+ghost use Rattle.typed_functions.specs.Selections.{renditions_left, selection_of, selections};
 
 use crate::ink::Ink;
 use esc_sequences::{Intensity, Underline};
@@ -87,7 +87,7 @@ impl Pen {
 
     /// Takes renditions, one after another. One that is not known leaves it.
     pub fn select_all(&mut self, renditions: Renditions<'_>)
-        ensures { self.new ≡ pen_by_all self.old (left renditions.entry) }
+        ensures { self.new ≡ pen_by_all self.old (renditions_left renditions.entry) }
     {
         for selection in renditions {
             self.select_optional(selection.rendition);

@@ -8,7 +8,7 @@ use Rattle.std.proofs.lemmas.List.{append-nil, length-append}
 use Rattle.esc_values.proofs.Numerals.{signed_part}
 use Rattle.esc_values.specs.Clear.{separated_parts, IsClearPart, AreClearParts}
 use Rattle.esc_values.specs.Cuts.{Pairs, pair_text, pairs_in, without_empty}
-use Rattle.esc_values.specs.Fields.{written}
+use Rattle.esc_values.specs.Fields.{present_pairs}
 use Rattle.esc_values.specs.Scalars.{and_then, IsSigned}
 use Rattle.esc_values.proofs.ClearPairs.{key_back}
 use Rattle.esc_values.proofs.ClearTexts.{part_append}
@@ -28,7 +28,7 @@ use Rattle.esc_prompts.specs.declared.prompt_kind.FinalTermPromptKind.TheVariant
 
 -- the keys that are written
 abbrev keys : Option (List ℕ) → Option FinalTermClick → Pairs
-keys aid cl = written ((codes "aid", aid) ∷ (codes "cl", option_map click_word cl) ∷ [])
+keys aid cl = present_pairs ((codes "aid", aid) ∷ (codes "cl", option_map click_word cl) ∷ [])
 
 -- the words are clear
 click_word_clear : (c : FinalTermClick) → IsClearPart (click_word c)

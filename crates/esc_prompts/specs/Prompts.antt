@@ -2,7 +2,7 @@
 use Rattle.std.specs.Prelude.{ℕ, pos, ◌≡◌, ◌==◌, if◌then◌else◌, List, [], ◌∷◌, ◌++◌, codes, Option, Some, None}
 use Rattle.std.specs.Fmt.{signed_decimal}
 use Rattle.std.specs.Option.{option_map, unwrap_or}
-use Rattle.esc_values.specs.Clear.{IsClearPart, AreClearParts, joined}
+use Rattle.esc_values.specs.Clear.{IsClearPart, AreClearParts, semicolon_list}
 use Rattle.esc_values.specs.Scalars.{and_then, IsSigned, signed_of}
 use Rattle.esc_prompts.specs.Pairs.{keys_of}
 use Rattle.esc_prompts.specs.Words.{click_of, click_word, kind_of, kind_word}
@@ -105,5 +105,5 @@ IsWritablePrompt p = Unit {0}
 -- says that the prompt's text is the code and clear parts, from which the prompt is read
 abbrev pub WritesBack : {A : Type 0} → FinalTermSemanticPrompt A → Type 0
 WritesBack {A = A} p =
-    (args : List (List ℕ)) × (prompt_text p ≡ joined (codes "133" ∷ args)) × AreClearParts args
+    (args : List (List ℕ)) × (prompt_text p ≡ semicolon_list (codes "133" ∷ args)) × AreClearParts args
     × (prompt_of {A = A} args ≡ Some p)

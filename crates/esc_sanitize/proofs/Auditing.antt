@@ -20,13 +20,13 @@ use Rattle.caret_notation.specs.declared.marking.Marking.{Marking}
 use Rattle.esc_sanitize.specs.Audits.{HasNoted, HeardAll, IsAudited, Told, account_of, way_by, way_of}
 use Rattle.esc_sanitize.specs.Fates.{shown_as}
 use Rattle.esc_sanitize.specs.Judged.{judged_rule, rule_by}
-use Rattle.esc_sanitize.specs.Overwritten.{lost_of_stream, moved, with_overwritten}
+use Rattle.esc_sanitize.specs.Overwritten.{lost_of_stream, sums_with_overwritten, with_overwritten}
 use Rattle.esc_sanitize.specs.Written.{passed_of}
 use Rattle.esc_sanitize.specs.declared.auditor.Auditor.{Auditor}
 use Rattle.esc_sanitize.specs.declared.auditor.Auditor.TheVariants as auditors
 use Rattle.esc_sanitize.specs.declared.options.FilterOptions.{FilterOptions}
 
-total_moved : (n : ℕ) (x : Sums) → total x < 2 ^ 64 → total (moved n x) ≡ total x
+total_moved : (n : ℕ) (x : Sums) → total x < 2 ^ 64 → total (sums_with_overwritten n x) ≡ total x
 total_moved n x few = omega (arith, few)
 
 -- the account with the bytes that are overwritten

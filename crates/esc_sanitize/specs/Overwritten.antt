@@ -31,8 +31,8 @@ past_shown n x = past_passed n x - x.shown
 abbrev pub past_replaced : ℕ → Sums → ℕ
 past_replaced n x = past_shown n x - x.replaced
 
-abbrev pub moved : ℕ → Sums → Sums
-moved n x = record x {
+abbrev pub sums_with_overwritten : ℕ → Sums → Sums
+sums_with_overwritten n x = record x {
   passed = x.passed - n;
   shown = x.shown - past_passed n x;
   replaced = x.replaced - past_shown n x;
@@ -40,4 +40,4 @@ moved n x = record x {
 }
 
 abbrev pub with_overwritten : ℕ → Account → Account
-with_overwritten n x = record x { sums = moved n x.sums }
+with_overwritten n x = record x { sums = sums_with_overwritten n x.sums }

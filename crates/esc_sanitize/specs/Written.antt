@@ -3,7 +3,7 @@ use Rattle.std.specs.Prelude.{ℕ, ◌≡◌, Bool, true, false, List, Option, S
 use Rattle.esc_actions.specs.Values.{Value}
 use Rattle.esc_decode.specs.Decodings.{decoded_stream}
 use Rattle.esc_filter.specs.Lines.{IsFilteredByLinesAs, closed_by_lines_as, text_by_lines_as}
-use Rattle.esc_filter.specs.Openings.{resumed}
+use Rattle.esc_filter.specs.Openings.{resumed_stream}
 use Rattle.esc_filter.specs.Passing.{IsFilteredAs, closed_text_as, passed_text_as}
 use Rattle.esc_filter.specs.Tokens.{AdmitsAtMost, IsColorText, IsPlainText}
 use Rattle.esc_filter.specs.declared.admit.Admit.{Ghosts as Admitter}
@@ -39,7 +39,7 @@ seen_by V o false s = revealed_by V o o.show (decoded_stream o.encoding s)
 -- The lines that are filtered: those of the stream, of which, where r, each but a blank one begins
 -- with the renditions that the lines before it leave on, as they are written.
 abbrev pub lined_text : {A : Type 0} → Bool → Guard → ℕ → (Value A → Bool) → List ℕ → List ℕ
-lined_text {A} true u limit p s = resumed {A = A} true u limit p s
+lined_text {A} true u limit p s = resumed_stream {A = A} true u limit p s
 lined_text {A} false u limit p s = s
 
 -- the text t is what passes of the stream s, which has ended or goes on: of each of its lines, in

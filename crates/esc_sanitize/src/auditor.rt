@@ -1,6 +1,6 @@
 //! The keeper of the account of a stream, if there is one.
 ghost use Rattle.std.specs.Prelude.{◌≡◌, ℕ, List, IfSome, MatchOption, None, Some, []};
-ghost use Rattle.esc_sanitize.specs.Overwritten.{moved, with_overwritten};
+ghost use Rattle.esc_sanitize.specs.Overwritten.{sums_with_overwritten, with_overwritten};
 
 use crate::judging::Judging;
 use crate::options::FilterOptions;
@@ -123,7 +123,7 @@ fn with_overwritten(account: Account, count: u64) -> Account
 
 // So many bytes are overwritten: of those that passed, that are shown, and that are replaced.
 fn moved(sums: Sums, count: u64) -> Sums
-    ensures { result ≡ moved count sums }
+    ensures { result ≡ sums_with_overwritten count sums }
 {
     let past_passed = count.saturating_sub(sums.passed);
     let past_shown = past_passed.saturating_sub(sums.shown);

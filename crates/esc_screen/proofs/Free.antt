@@ -2,7 +2,7 @@
 use Rattle.std.proofs.Common.{ℕ, suc, zero, ◌≡◌, ◌+◌, ◌-◌, ◌<◌, ◌≤◌, Bool, true, false, List, [], ◌∷◌, ◌++◌, length, map, set, take, drop, get_or, if◌then◌else◌, refl, ap, sym, ◌∙◌, append_assoc, arith}
 use Rattle.std.proofs.lemmas.Bool.{true≢false}
 use Rattle.std.proofs.lemmas.List.{drop_more, get_or_at, get_or-append-add, length-map, length-take-le, length_push, map_more, set_at}
-use Rattle.esc_screen.specs.Cells.{blank, cut_row, drawn_cell, emptied_cells, is_free, is_rest, put, put_all}
+use Rattle.esc_screen.specs.Cells.{blank, cut_row, drawn_cell, emptied_cells, is_free, is_rest, cells_with, put_all}
 use Rattle.esc_screen.specs.declared.cell.Cell.{Cell}
 
 pub cut_same : (n : ℕ) (xs : List Cell) → is_rest (get_or xs n (blank 0)) ≡ false → cut_row n xs
@@ -32,7 +32,7 @@ free_run n l (c ∷ cs) p (y ∷ ys) e less h =
     let next : is_rest (get_or xs (n + 1) (blank 0)) ≡ false =
     ap is_rest (ap (λ m. get_or xs (m + 1) (blank 0)) (sym e)
     ∙ get_or-append-add p (y ∷ ys) 1 (blank 0)) ∙ head_free (length cs) ys k.1 in
-    let first : put n l c xs ≡ p ++ drawn_cell l c ∷ ys =
+    let first : cells_with n l c xs ≡ p ++ drawn_cell l c ∷ ys =
     ap (λ z. set (cut_row (n + 1) z) n (drawn_cell l c)) (cut_same n xs here)
     ∙ ap (λ z. set z n (drawn_cell l c)) (cut_same (n + 1) xs next)
     ∙ set_at p y ys (drawn_cell l c) n e in

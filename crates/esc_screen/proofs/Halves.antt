@@ -4,7 +4,7 @@ use Rattle.std.proofs.lemmas.Bool.{cases_Bool, true≢false}
 use Rattle.std.proofs.lemmas.Bool.Decides.{nat_tests}
 use Rattle.std.proofs.lemmas.List.{get_or-drop, length-drop, take_all}
 use Rattle.esc_screen.specs.Lists.{in_part, moved_down, moved_up}
-use Rattle.esc_screen.specs.Cells.{blank, cell, cleared_cells, cut_row, deleted_cells, drawn_cell, emptied_cells, erased_cells, filled_cells, filled_part, inserted_cells, is_rest, is_rest_content, joined_at, joined_cell, marked_cells, marked_cell, marked_content, no_marks, put, put_wide, shifted_cells, start_of}
+use Rattle.esc_screen.specs.Cells.{blank, cell, cleared_cells, cut_row, deleted_cells, drawn_cell, emptied_cells, erased_cells, filled_cells, filled_part, inserted_cells, is_rest, is_rest_content, joined_at, joined_cell, marked_cells, marked_cell, marked_content, no_marks, cells_with, put_wide, shifted_cells, start_of}
 use Rattle.esc_screen.specs.Halves.{GoOn, IsWhole, is_wide, is_wide_content}
 use Rattle.esc_screen.specs.declared.cell.Cell.{Cell}
 use Rattle.esc_screen.specs.declared.content.Content.{Content}
@@ -156,7 +156,7 @@ whole_filled x (suc n) r v =
 
 -- ---- what writes cells
 
-pub whole_put : (n l c : ℕ) (xs : List Cell) → IsWhole xs → IsWhole (put n l c xs)
+pub whole_put : (n l c : ℕ) (xs : List Cell) → IsWhole xs → IsWhole (cells_with n l c xs)
 whole_put n l c xs h =
     let ys = cut_row (n + 1) (cut_row n xs) in
     let one : n + 1 ≡ suc n = omega arith in

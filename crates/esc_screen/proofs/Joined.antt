@@ -3,7 +3,7 @@ use Rattle.std.proofs.Common.{ℕ, suc, zero, ◌≡◌, ◌+◌, nat_lt, Bool, 
 use Rattle.std.proofs.lemmas.Bool.{and_parts}
 use Rattle.esc_screen.specs.Cells.{joined_at}
 use Rattle.esc_screen.specs.Grids.{Grid, Size, next_line, settled_grid, with_rows}
-use Rattle.esc_screen.specs.Printing.{has_room, joined, narrow_put, grid_with_room, printed_wide, wide_printed, wrapped_grid}
+use Rattle.esc_screen.specs.Printing.{has_room, row_gone_on, narrow_put, grid_with_room, printed_wide, wide_printed, wrapped_grid}
 use Rattle.esc_screen.specs.Scrolled.{JoinsOnce, gone_by, gone_wide, gone_wrapped, joined_by, joined_narrow}
 use Rattle.esc_screen.specs.Steps.{grid_by}
 use Rattle.esc_screen.specs.declared.cell.Cell.{Cell}
@@ -16,7 +16,7 @@ joined_again n [] = refl
 joined_again zero (x ∷ xs) = refl
 joined_again (suc n) (x ∷ xs) = ap (λ z. x ∷ z) (joined_again n xs)
 
-joined_twice : (g : Grid) → joined (joined g) ≡ joined g
+joined_twice : (g : Grid) → row_gone_on (row_gone_on g) ≡ row_gone_on g
 joined_twice g =
     let r = g.cursor.row in
     let f = joined_at g.cursor.column in
@@ -26,14 +26,14 @@ joined_twice g =
 
 -- the wrap of a character of one column, by whether one is pending and lines wrap
 abbrev wrap_by : Size → Bool → Bool → Grid → Grid
-wrap_by s p w z = if p then if w then next_line s (joined z) else settled_grid z else z
+wrap_by s p w z = if p then if w then next_line s (row_gone_on z) else settled_grid z else z
 
 wrapped_joined : (s : Size) (g : Grid) → g.cursor.pending && g.modes.wraps ≡ true
-    → wrapped_grid s (joined g) ≡ wrapped_grid s g
+    → wrapped_grid s (row_gone_on g) ≡ wrapped_grid s g
 wrapped_joined s g h =
     let k = and_parts g.cursor.pending g.modes.wraps h in
-    ap (λ p. wrap_by s p g.modes.wraps (joined g)) k.0
-    ∙ ap (λ w. wrap_by s true w (joined g)) k.1
+    ap (λ p. wrap_by s p g.modes.wraps (row_gone_on g)) k.0
+    ∙ ap (λ w. wrap_by s true w (row_gone_on g)) k.1
     ∙ ap (next_line s) (joined_twice g)
     ∙ sym (ap (λ p. wrap_by s p g.modes.wraps g) k.0 ∙ ap (λ w. wrap_by s true w g) k.1)
 
@@ -41,7 +41,7 @@ narrow_once : (s : Size) (g : Grid) → wrapped_grid s (joined_narrow g) ≡ wra
 narrow_once s g = by_test (g.cursor.pending && g.modes.wraps) (λ e. e)
   where
     by_test : (b : Bool) → (b ≡ true → g.cursor.pending && g.modes.wraps ≡ true)
-        → wrapped_grid s (if b then joined g else g) ≡ wrapped_grid s g
+        → wrapped_grid s (if b then row_gone_on g else g) ≡ wrapped_grid s g
     by_test false e = refl
     by_test true e = wrapped_joined s g (e refl)
 
@@ -49,7 +49,7 @@ narrow_once s g = by_test (g.cursor.pending && g.modes.wraps) (λ e. e)
 abbrev wide_by : Size → ℕ → Bool → Bool → Grid → Grid
 wide_by s c r t z =
     if r then printed_wide s c (grid_with_room s 2
-    (if t then wrapped_grid s z else next_line s (joined z)))
+    (if t then wrapped_grid s z else next_line s (row_gone_on z)))
     else z
 
 wide_once : (s : Size) (c : ℕ) (g : Grid)
@@ -67,20 +67,20 @@ wide_once s c g =
 
     on_line : (b : Bool) → (b ≡ true → g.cursor.pending && g.modes.wraps ≡ true)
         → has_room s g ≡ true → nat_lt (g.cursor.column + 1) s.columns ≡ true
-        → wide_printed s c (if b then joined g else g) ≡ wide_printed s c g
+        → wide_printed s c (if b then row_gone_on g else g) ≡ wide_printed s c g
     on_line false h e k = refl
     on_line true h e k =
-        as_is true true (joined g) e k
+        as_is true true (row_gone_on g) e k
         ∙ ap (λ z. printed_wide s c (grid_with_room s 2 z)) (wrapped_joined s g (h refl))
         ∙ sym (as_is true true g e k)
 
     by_test : (r t : Bool) → has_room s g ≡ r → nat_lt (g.cursor.column + 1) s.columns ≡ t
-        → wide_printed s c (if r then if t then joined_narrow g else joined g else g)
+        → wide_printed s c (if r then if t then joined_narrow g else row_gone_on g else g)
         ≡ wide_printed s c g
     by_test false t e k = refl
     by_test true true e k = on_line (g.cursor.pending && g.modes.wraps) (λ h. h) e k
     by_test true false e k =
-        as_is true false (joined g) e k
+        as_is true false (row_gone_on g) e k
         ∙ ap (λ z. printed_wide s c (grid_with_room s 2 (next_line s z))) (joined_twice g)
         ∙ sym (as_is true false g e k)
 
@@ -96,7 +96,8 @@ joins_once s g step.Nothing = refl
 
 -- ---- as many rows go off
 
-gone_wrapped_if : (b : Bool) (g : Grid) → gone_wrapped (if b then joined g else g) ≡ gone_wrapped g
+gone_wrapped_if : (b : Bool) (g : Grid) → gone_wrapped (if b then row_gone_on g else g)
+    ≡ gone_wrapped g
 gone_wrapped_if true g = refl
 gone_wrapped_if false g = refl
 
@@ -112,8 +113,8 @@ gone_joined s g (step.PrintWide c) =
     gone_wide_if (has_room s g) s _ g
     (either (nat_lt (g.cursor.column + 1) s.columns))
   where
-    either : (t : Bool) → gone_wide s (if t then joined_narrow g else joined g) ≡ gone_wide s g
-    either true = gone_wide_if (g.cursor.pending && g.modes.wraps) s (joined g) g refl
+    either : (t : Bool) → gone_wide s (if t then joined_narrow g else row_gone_on g) ≡ gone_wide s g
+    either true = gone_wide_if (g.cursor.pending && g.modes.wraps) s (row_gone_on g) g refl
     either false = refl
 gone_joined s g (step.Mark c) = refl
 gone_joined s g (step.Repeat n) = refl

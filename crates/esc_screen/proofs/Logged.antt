@@ -4,13 +4,13 @@ use Rattle.std.proofs.lemmas.Bool.{cases_Bool}
 use Rattle.std.proofs.lemmas.Bool.Decides.{nat_tests}
 use Rattle.std.proofs.lemmas.List.{drop_all, get_or_at, length-map, length-replicate, length_push, map-append, set_at, take_all}
 use Rattle.esc_screen.specs.Cells.{blank, blank_row, cleared_cells, inserted_cells, put_all}
-use Rattle.esc_screen.specs.Changes.{fed}
+use Rattle.esc_screen.specs.Changes.{next_row}
 use Rattle.esc_screen.specs.Cursors.{at, home, landed_cursor}
 use Rattle.esc_screen.specs.Grids.{Grid, Size, first_grid, in_row, line_fed, grid_at, rows_up, settled_grid, with_cursor}
 use Rattle.esc_screen.specs.Lists.{in_part, moved_up}
 use Rattle.esc_screen.specs.Logs.{KeepsLog, log_of}
 use Rattle.esc_screen.specs.Paints.{AllFit, plain_cell, row_of}
-use Rattle.esc_screen.specs.Printing.{joined, narrow_printed, narrow_put, grid_with_room, grid_past}
+use Rattle.esc_screen.specs.Printing.{row_gone_on, narrow_printed, narrow_put, grid_with_room, grid_past}
 use Rattle.esc_screen.specs.Scrolled.{gone_fed, gone_up, off_from}
 use Rattle.esc_screen.specs.Steps.{grid_by, grid_from}
 use Rattle.esc_screen.specs.declared.cell.Cell.{Cell}
@@ -47,13 +47,13 @@ none_from : (s : Size) (c : ℕ) (cs : List ℕ) (g : Grid) → g.cursor.pending
     → g.cursor.column + length (c ∷ cs) ≤ s.columns → off_from s g (map step.Print (c ∷ cs)) ≡ []
 none_from s c [] g ready fits =
     ap (λ b. (take (if b && g.modes.wraps then gone_fed g else 0)
-    (if b && g.modes.wraps then joined g else g).rows ++ []) ++ []) ready
+    (if b && g.modes.wraps then row_gone_on g else g).rows ++ []) ++ []) ready
 none_from s c (d ∷ ds) g ready fits =
     let h = narrow_printed s c g in
     let is = next_cursor s c g ready (omega (arith, fits)) in
     let column : h.cursor.column ≡ g.cursor.column + 1 = ap (λ k. k.column) is in
     ap (λ b. (take (if b && g.modes.wraps then gone_fed g else 0)
-    (if b && g.modes.wraps then joined g else g).rows ++ [])
+    (if b && g.modes.wraps then row_gone_on g else g).rows ++ [])
     ++ off_from s h (map step.Print (d ∷ ds))) ready
     ∙ none_from s d ds h (ap (λ k. k.pending) is ∙ ready) (omega (arith, fits, column))
 
@@ -146,7 +146,7 @@ fed_first s i rs = by_test s.returns
     either true = refl
     either false = refl
 
-    by_test : (b : Bool) → fed s (b || false) g ≡ line_fed s g
+    by_test : (b : Bool) → next_row s (b || false) g ≡ line_fed s g
     by_test false = refl
     by_test true = either (i + 1 == s.rows)
 

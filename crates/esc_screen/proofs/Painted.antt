@@ -1,7 +1,7 @@
 -- A painted screen shows the rows that were painted.
 use Rattle.std.proofs.Common.{ℕ, suc, zero, ◌≡◌, ◌+◌, ◌-◌, ◌<◌, ◌≤◌, min, nat_lt, Bool, true, false, List, [], ◌∷◌, ◌++◌, length, map, set, replicate, get_or, if◌then◌else◌, refl, ap, subst, sym, ◌∙◌, append_assoc, arith}
 use Rattle.std.proofs.lemmas.List.{get_or_at, get_or-append-add, length_push, set_at}
-use Rattle.esc_screen.specs.Cells.{blank, blank_row, cut_row, is_rest, put, put_all}
+use Rattle.esc_screen.specs.Cells.{blank, blank_row, cut_row, is_rest, cells_with, put_all}
 use Rattle.esc_screen.specs.Grids.{Grid, Size, first_grid, in_row, grid_at, with_cursor}
 use Rattle.esc_screen.specs.Motions.{row_by}
 use Rattle.esc_screen.specs.Printing.{is_direct, grid_past}
@@ -19,7 +19,8 @@ any_blank zero = refl
 any_blank (suc j) = refl
 
 put_first : (n j c : ℕ) (p : List Cell) → length p ≡ n
-    → put n 0 c (p ++ replicate (suc j) (blank 0)) ≡ p ++ plain_cell c ∷ replicate j (blank 0)
+    → cells_with n 0 c (p ++ replicate (suc j) (blank 0))
+        ≡ p ++ plain_cell c ∷ replicate j (blank 0)
 put_first n j c p e =
     let b = blank 0 in
     let xs = p ++ b ∷ replicate j b in
@@ -111,21 +112,21 @@ row_painted s i (c ∷ cs) g above below pen e within fits rows =
     let h = grid_at i 0 g in
     let first = positioned_first s i g pen within in
     let all = run_is s (c ∷ cs) h refl pen.direct (omega arith) (omega (arith, fits)) in
-    let put = put_all 0 g.cursor.look (c ∷ cs) in
-    let is : (in_row put h).rows ≡ above ++ row_of s (c ∷ cs) ∷ below =
-    ap (λ z. set z i (put (get_or z i []))) rows
-    ∙ ap (λ z. set (above ++ b ∷ below) i (put z)) (get_or_at above b below [] i e)
+    let cells_with = put_all 0 g.cursor.look (c ∷ cs) in
+    let is : (in_row cells_with h).rows ≡ above ++ row_of s (c ∷ cs) ∷ below =
+    ap (λ z. set z i (cells_with (get_or z i []))) rows
+    ∙ ap (λ z. set (above ++ b ∷ below) i (cells_with z)) (get_or_at above b below [] i e)
     ∙ ap (λ l. set (above ++ b ∷ below) i (put_all 0 l (c ∷ cs) b)) pen.look
     ∙ ap (set (above ++ b ∷ below) i) (put_blank 0 s.columns (c ∷ cs) [] refl fits)
     ∙ set_at above b below (row_of s (c ∷ cs)) i e in
     let runs = ap (λ z. grid_from s z (map step.Print (c ∷ cs))) first ∙ all in
-    let row : IsPlain (in_row put h) = record {
+    let row : IsPlain (in_row cells_with h) = record {
       look = pen.look;
       direct = pen.direct;
       origin = pen.origin;
     } in (
       ap (λ z. z.rows) runs ∙ is,
-      subst IsPlain (sym runs) (plain_passed s (length (c ∷ cs)) (in_row put h) row),
+      subst IsPlain (sym runs) (plain_passed s (length (c ∷ cs)) (in_row cells_with h) row),
     )
 
 all_painted : (s : Size) (i : ℕ) (css : List (List ℕ)) (g : Grid) (above : List (List Cell))

@@ -1,6 +1,6 @@
 -- A line feed that returns.
 use Rattle.std.proofs.Common.{◌≡◌, ◌+◌, ◌-◌, ◌==◌, ◌||◌, min, Bool, true, false, if◌then◌else◌, refl, ap, sym, ◌∙◌}
-use Rattle.esc_screen.specs.Changes.{fed}
+use Rattle.esc_screen.specs.Changes.{next_row}
 use Rattle.esc_screen.specs.Grids.{Grid, Size, grid_at, next_line, rows_up, settled_grid}
 use Rattle.esc_screen.specs.Scrolled.{ReturnsAlone}
 
@@ -22,7 +22,7 @@ next_from s g = either (g.cursor.row + 1 == g.bottom)
 pub returns_alone : ReturnsAlone
 returns_alone s g h =
     let m = grid_at g.cursor.row 0 g in (
-      ap (λ b. fed s (b || g.modes.new_line) m) h ∙ next_from s g
-          ∙ sym (ap (λ b. fed s (b || g.modes.new_line) g) h),
+      ap (λ b. next_row s (b || g.modes.new_line) m) h ∙ next_from s g
+          ∙ sym (ap (λ b. next_row s (b || g.modes.new_line) g) h),
       refl,
     )

@@ -4,10 +4,10 @@ use Rattle.std.proofs.Math.Seq.{set_out}
 use Rattle.std.proofs.lemmas.Bool.{cases_Bool, true≢false}
 use Rattle.std.proofs.lemmas.Bool.Decides.{nat_tests}
 use Rattle.std.proofs.lemmas.List.{get_or-set_same, map-append, set-set, take-append-drop}
-use Rattle.esc_screen.specs.Cells.{inserted_cells, put, put_all}
+use Rattle.esc_screen.specs.Cells.{inserted_cells, cells_with, put_all}
 use Rattle.esc_screen.specs.Cursors.{draws, landed_cursor, line_drawing}
 use Rattle.esc_screen.specs.Grids.{Grid, Size, in_row, next_line, settled_grid, with_cursor}
-use Rattle.esc_screen.specs.Printing.{is_direct, joined, narrow_printed, narrow_put, grid_with_room, grid_past, grid_with_character, wrapped_grid, wrapped_past}
+use Rattle.esc_screen.specs.Printing.{is_direct, row_gone_on, narrow_printed, narrow_put, grid_with_room, grid_past, grid_with_character, wrapped_grid, wrapped_past}
 use Rattle.esc_screen.specs.Steps.{grid_by, grid_from}
 use Rattle.esc_screen.specs.declared.cell.Cell.{Cell}
 use Rattle.esc_screen.specs.declared.step.Step.{Step}
@@ -45,7 +45,7 @@ none_pending s g =
       | inr failed ↦ ap (λ b. (if b then wrapped_past s g else g).cursor.pending) failed ∙ failed
     ]
   where
-    either : (b : Bool) → (if b then next_line s (joined g)
+    either : (b : Bool) → (if b then next_line s (row_gone_on g)
         else settled_grid g).cursor.pending ≡ false
     either true = refl
     either false = refl
@@ -95,18 +95,19 @@ run_from s c (d ∷ ds) g ready direct fits =
     let n = g.cursor.column in
     let next : n + 1 < s.columns = omega (arith, fits) in
     let h = with_cursor (record (g.cursor) { column = n + 1 })
-    (in_row (put n g.cursor.look c) g) in
+    (in_row (cells_with n g.cursor.look c) g) in
     let first : narrow_printed s c g ≡ h =
     ap (narrow_put s c) (not_wrapped s g ready)
     ∙ narrow_direct s c g direct
-    ∙ ap (λ z. with_cursor z (in_row (put n g.cursor.look c) g))
+    ∙ ap (λ z. with_cursor z (in_row (cells_with n g.cursor.look c) g))
     (landed_in s g.modes.wraps (n + 1) g next) in
     let one : n + 1 + length cs ≡ n + length (c ∷ cs) = omega arith in
     let less : n + 1 + length cs ≤ s.columns = omega (arith, fits, one) in
     ap (λ z. grid_from s z (map step.Print cs)) first
     ∙ run_from s d ds h ready direct less
     ∙ ap (λ rs. grid_past s (length cs) (record h { rows = rs }))
-    (row_twice g.rows g.cursor.row (put n g.cursor.look c) (put_all (n + 1) g.cursor.look cs))
+    (row_twice g.rows g.cursor.row (cells_with n g.cursor.look c)
+        (put_all (n + 1) g.cursor.look cs))
     ∙ ap (λ m. with_cursor (landed_cursor s.columns g.modes.wraps m g.cursor)
     (in_row (put_all n g.cursor.look (c ∷ cs)) g)) one
 

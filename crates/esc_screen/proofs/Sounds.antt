@@ -2,7 +2,7 @@
 use Rattle.std.proofs.Common.{ℕ, suc, zero, ◌≡◌, ◌+◌, ◌-◌, ◌<◌, ◌≤◌, max, Bool, true, false, List, [], ◌∷◌, ◌++◌, length, map, set, take, drop, get_or, if◌then◌else◌, refl, ap, sym, ◌∙◌, length-append, arith}
 use Rattle.std.proofs.lemmas.List.{length-map, length-replicate, length-set, take-append-drop}
 use Rattle.esc_screen.specs.Lists.{in_part, moved_down, moved_up}
-use Rattle.esc_screen.specs.Cells.{blank, cleared_cells, cut_row, deleted_cells, emptied_cells, erased_cells, filled_cells, filled_part, inserted_cells, is_rest, marked_cells, put, put_wide, shifted_cells, start_of}
+use Rattle.esc_screen.specs.Cells.{blank, cleared_cells, cut_row, deleted_cells, emptied_cells, erased_cells, filled_cells, filled_part, inserted_cells, is_rest, marked_cells, cells_with, put_wide, shifted_cells, start_of}
 use Rattle.esc_screen.specs.Changes.{columns_moved}
 use Rattle.esc_screen.specs.Cursors.{at}
 use Rattle.esc_screen.specs.Grids.{Grid, Size, in_row, in_rows, grid_at, rows_down, rows_erased, rows_up, with_cursor, with_margins, with_rows}
@@ -22,7 +22,7 @@ length_cut n xs = if_same length (length xs) (is_rest (get_or xs n (blank 0)))
     (emptied_cells n (emptied_cells (n - 1) xs)) xs
     (length-set (emptied_cells (n - 1) xs) n _ ∙ length-set xs (n - 1) _) refl
 
-pub length_put : (n l c : ℕ) (xs : List Cell) → length (put n l c xs) ≡ length xs
+pub length_put : (n l c : ℕ) (xs : List Cell) → length (cells_with n l c xs) ≡ length xs
 length_put n l c xs = length-set (cut_row (n + 1) (cut_row n xs)) n _
     ∙ length_cut (n + 1) (cut_row n xs)
     ∙ length_cut n xs

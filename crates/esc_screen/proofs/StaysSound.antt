@@ -4,10 +4,10 @@ use Rattle.std.proofs.lemmas.Bool.Decides.{nat_tests}
 use Rattle.std.proofs.lemmas.List.{length-replicate, length-set}
 use Rattle.esc_screen.specs.Areas.{area_filled, end_column, end_row, has_cells}
 use Rattle.esc_screen.specs.Lists.{times}
-use Rattle.esc_screen.specs.Cells.{blank, blank_row, deleted_cells, drawn_cell, erased_cells, filled_cells, inserted_cells, joined_at, marked_cells, put, put_wide}
-use Rattle.esc_screen.specs.Cursors.{before_stop, landed_cursor, shown, stop_after, stop_before}
+use Rattle.esc_screen.specs.Cells.{blank, blank_row, deleted_cells, drawn_cell, erased_cells, filled_cells, inserted_cells, joined_at, marked_cells, cells_with, put_wide}
+use Rattle.esc_screen.specs.Cursors.{before_stop, landed_cursor, drawn_character, stop_after, stop_before}
 use Rattle.esc_screen.specs.Grids.{Grid, Size, blank_rows, first_grid, in_row, line_fed, line_fed_back, grid_at, next_line, rows_erased, settled_grid, with_cursor, with_margins, with_rows}
-use Rattle.esc_screen.specs.Printing.{before, column_before, has_before, has_room, joined, mark_printed, narrow_printed, grid_with_room, grid_past, grid_with_character, printed_wide, repeated_content, wide_printed, wrapped_grid, wrapped_wide}
+use Rattle.esc_screen.specs.Printing.{before, column_before, has_before, has_room, row_gone_on, mark_printed, narrow_printed, grid_with_room, grid_past, grid_with_character, printed_wide, repeated_content, wide_printed, wrapped_grid, wrapped_wide}
 use Rattle.esc_screen.specs.Motions.{column_by, grid_by_motion, positioned_grid, row_by, row_down, row_up, tab_before}
 use Rattle.esc_screen.specs.Changes.{alignment_grid, cells_erased, columns_within, grid_by_change, is_within}
 use Rattle.esc_screen.specs.Settings.{alternate_cleared, emptied_grid, exchanged_screens, grid_by_setting, saving, scrolling, to_alternate, to_main}
@@ -85,24 +85,24 @@ sound_opened s n g h = sound_if s g.modes.inserts _ _
     (sound_in_row s g (inserted_cells g.cursor.erased n g.cursor.column s.columns)
     (length_inserted g.cursor.erased n g.cursor.column s.columns) h) h
 
-pub sound_joined : (s : Size) (g : Grid) → IsSound s g → IsSound s (joined g)
+pub sound_joined : (s : Size) (g : Grid) → IsSound s g → IsSound s (row_gone_on g)
 sound_joined s g h = sound_in_row s g (joined_at g.cursor.column)
     (λ ys. length-set ys g.cursor.column _) h
 
 pub sound_wrapped : (s : Size) (g : Grid) → IsSound s g → IsSound s (wrapped_grid s g)
 sound_wrapped s g h = sound_if s g.cursor.pending _ _
-    (sound_if s g.modes.wraps _ _ (sound_next s (joined g) (sound_joined s g h))
+    (sound_if s g.modes.wraps _ _ (sound_next s (row_gone_on g) (sound_joined s g h))
     (sound_here s g h)) h
 
 sound_printed : (s : Size) (c : ℕ) (g : Grid) → IsSound s g → IsSound s (grid_with_character s c g)
-sound_printed s c g h = sound_passed s 1 (in_row (put g.cursor.column g.cursor.look c) g)
-    (sound_in_row s g (put g.cursor.column g.cursor.look c)
+sound_printed s c g h = sound_passed s 1 (in_row (cells_with g.cursor.column g.cursor.look c) g)
+    (sound_in_row s g (cells_with g.cursor.column g.cursor.look c)
     (length_put g.cursor.column g.cursor.look c) h)
 
 pub sound_narrow : (s : Size) (c : ℕ) (g : Grid) → IsSound s g → IsSound s (narrow_printed s c g)
 sound_narrow s c g h =
     let w = wrapped_grid s g in
-    sound_printed s (shown w.cursor c) (grid_with_room s 1 w)
+    sound_printed s (drawn_character w.cursor c) (grid_with_room s 1 w)
     (sound_opened s 1 w (sound_wrapped s g h))
 
 sound_printed_wide : (s : Size) (c : ℕ) (g : Grid) → IsSound s g → IsSound s (printed_wide s c g)
@@ -113,7 +113,7 @@ sound_printed_wide s c g h =
 
 pub sound_wrapped_wide : (s : Size) (g : Grid) → IsSound s g → IsSound s (wrapped_wide s g)
 sound_wrapped_wide s g h = sound_if s (nat_lt (g.cursor.column + 1) s.columns) _ _
-    (sound_wrapped s g h) (sound_next s (joined g) (sound_joined s g h))
+    (sound_wrapped s g h) (sound_next s (row_gone_on g) (sound_joined s g h))
 
 pub sound_wide : (s : Size) (c : ℕ) (g : Grid) → IsSound s g → IsSound s (wide_printed s c g)
 sound_wide s c g h = sound_if s (has_room s g) _ _
@@ -290,7 +290,7 @@ sound_change s g change.ForwardIndex h =
     (sound_motion s g (motion.Right 1) h)
 sound_change s g (change.EraseArea r) h = sound_area s r (blank g.cursor.erased) g h
 sound_change s g (change.FillArea c r) h =
-    sound_area s r (drawn_cell g.cursor.look (shown g.cursor c)) g h
+    sound_area s r (drawn_cell g.cursor.look (drawn_character g.cursor c)) g h
 sound_change s g change.Align h = sound_aligned s g h
 
 -- ---- settings

@@ -4,13 +4,13 @@ use Rattle.std.proofs.lemmas.Bool.{and_parts}
 use Rattle.std.proofs.lemmas.Bool.Decides.{nat_tests}
 use Rattle.esc_screen.specs.Lists.{in_part, moved_down, moved_up, times}
 use Rattle.esc_screen.specs.Areas.{area_filled, end_column, end_row, has_cells}
-use Rattle.esc_screen.specs.Cells.{blank, blank_row, cleared_cells, deleted_cells, drawn_cell, erased_cells, filled_cells, filled_part, inserted_cells, is_rest, joined_at, marked_cells, put, put_wide, shifted_cells}
-use Rattle.esc_screen.specs.Changes.{alignment_grid, cells_erased, columns_moved, columns_within, fed, grid_by_change, is_within}
-use Rattle.esc_screen.specs.Cursors.{shown}
+use Rattle.esc_screen.specs.Cells.{blank, blank_row, cleared_cells, deleted_cells, drawn_cell, erased_cells, filled_cells, filled_part, inserted_cells, is_rest, joined_at, marked_cells, cells_with, put_wide, shifted_cells}
+use Rattle.esc_screen.specs.Changes.{alignment_grid, cells_erased, columns_moved, columns_within, next_row, grid_by_change, is_within}
+use Rattle.esc_screen.specs.Cursors.{drawn_character}
 use Rattle.esc_screen.specs.Grids.{Grid, Size, in_row, line_fed, line_fed_back, grid_at, next_line, rows_down, rows_erased, rows_up, settled_grid, with_rows}
 use Rattle.esc_screen.specs.Halves.{AreWhole, BeginsWhole, HasWholeRows, IsWhole, StaysWhole, is_wide}
 use Rattle.esc_screen.specs.Motions.{column_by, grid_by_motion, row_by}
-use Rattle.esc_screen.specs.Printing.{before, column_before, has_before, has_room, joined, mark_printed, narrow_printed, grid_with_room, grid_with_character, printed_wide, repeated_content, wide_printed, wrapped_grid, wrapped_wide}
+use Rattle.esc_screen.specs.Printing.{before, column_before, has_before, has_room, row_gone_on, mark_printed, narrow_printed, grid_with_room, grid_with_character, printed_wide, repeated_content, wide_printed, wrapped_grid, wrapped_wide}
 use Rattle.esc_screen.specs.Settings.{alternate_cleared, emptied_grid, exchanged_screens, grid_by_setting, saving, scrolling, to_alternate, to_main}
 use Rattle.esc_screen.specs.Sound.{AreWide, IsSound}
 use Rattle.esc_screen.specs.Steps.{grid_by}
@@ -148,25 +148,25 @@ whole_back g h = whole_if (g.cursor.row == g.top) _ _
 whole_next : (s : Size) (g : Grid) → HasWholeRows g → HasWholeRows (next_line s g)
 whole_next s g h = whole_moved (line_fed s g).cursor.row 0 (line_fed s g) (whole_fed s g h)
 
-whole_line : (s : Size) (b : Bool) (g : Grid) → HasWholeRows g → HasWholeRows (fed s b g)
+whole_line : (s : Size) (b : Bool) (g : Grid) → HasWholeRows g → HasWholeRows (next_row s b g)
 whole_line s b g h = whole_if b _ _ (whole_next s g h) (whole_fed s g h)
 
 -- ---- characters
 
-whole_join : (s : Size) (g : Grid) → IsSound s g → HasWholeRows g → HasWholeRows (joined g)
+whole_join : (s : Size) (g : Grid) → IsSound s g → HasWholeRows g → HasWholeRows (row_gone_on g)
 whole_join s g o h =
     whole_in_row s g (joined_at g.cursor.column) o (λ ys e w. whole_joined g.cursor.column ys w) h
 
 whole_wrapped : (s : Size) (g : Grid) → IsSound s g → HasWholeRows g
     → HasWholeRows (wrapped_grid s g)
 whole_wrapped s g o h = whole_if g.cursor.pending _ _
-    (whole_if g.modes.wraps _ _ (whole_next s (joined g) (whole_join s g o h))
+    (whole_if g.modes.wraps _ _ (whole_next s (row_gone_on g) (whole_join s g o h))
     (whole_moved g.cursor.row g.cursor.column g h)) h
 
 whole_wrapped_wide : (s : Size) (g : Grid) → IsSound s g → HasWholeRows g
     → HasWholeRows (wrapped_wide s g)
 whole_wrapped_wide s g o h = whole_if (nat_lt (g.cursor.column + 1) s.columns) _ _
-    (whole_wrapped s g o h) (whole_next s (joined g) (whole_join s g o h))
+    (whole_wrapped s g o h) (whole_next s (row_gone_on g) (whole_join s g o h))
 
 below : (m n : ℕ) → m < n → m ≤ n
 below m n h = omega (arith, h)
@@ -181,8 +181,8 @@ whole_opened s n g o h = whole_if g.modes.inserts _ _
 whole_printed : (s : Size) (c : ℕ) (g : Grid) → IsSound s g → HasWholeRows g
     → HasWholeRows (grid_with_character s c g)
 whole_printed s c g o h = same_rows
-    (in_row (put g.cursor.column g.cursor.look c) g) _
-    (whole_in_row s g (put g.cursor.column g.cursor.look c) o
+    (in_row (cells_with g.cursor.column g.cursor.look c) g) _
+    (whole_in_row s g (cells_with g.cursor.column g.cursor.look c) o
     (λ ys e w. whole_put g.cursor.column g.cursor.look c ys w) h) refl refl
 
 whole_narrow : (s : Size) (c : ℕ) (g : Grid) → IsSound s g → HasWholeRows g
@@ -190,7 +190,7 @@ whole_narrow : (s : Size) (c : ℕ) (g : Grid) → IsSound s g → HasWholeRows 
 whole_narrow s c g o h =
     let w = wrapped_grid s g in
     let v = sound_wrapped s g o in
-    whole_printed s (shown w.cursor c) (grid_with_room s 1 w) (sound_opened s 1 w v)
+    whole_printed s (drawn_character w.cursor c) (grid_with_room s 1 w) (sound_opened s 1 w v)
     (whole_opened s 1 w v (whole_wrapped s g o h))
 
 fits_two : (n c : ℕ) (ys : List Cell) → length ys ≡ c → n + 1 < c → n + 1 < length ys
@@ -224,7 +224,8 @@ has_two s g h =
     by_test (nat_lt (g.cursor.column + 1) s.columns) some (λ e. grind (arith, nat_tests, e))
   where
     either : (p w : Bool) → 0 + 1 < s.columns → g.cursor.column + 1 < s.columns
-        → (if p then if w then next_line s (joined g) else settled_grid g else g).cursor.column + 1
+        → (if p then if w then next_line s (row_gone_on g) else settled_grid g else g).cursor.column
+            + 1
         < s.columns
     either true true some less = some
     either true false some less = less
@@ -232,7 +233,8 @@ has_two s g h =
 
     by_test : (t : Bool) → 0 + 1 < s.columns
         → (t ≡ true → g.cursor.column + 1 < s.columns)
-        → (if t then wrapped_grid s g else next_line s (joined g)).cursor.column + 1 < s.columns
+        → (if t then wrapped_grid s g else next_line s (row_gone_on g)).cursor.column + 1
+            < s.columns
     by_test true some less = either g.cursor.pending g.modes.wraps some (less refl)
     by_test false some less = some
 
@@ -420,7 +422,7 @@ whole_change s g change.ForwardIndex o h =
     (whole_motion s g (motion.Right 1) h)
 whole_change s g (change.EraseArea r) o h = whole_area s r (blank g.cursor.erased) g refl refl h
 whole_change s g (change.FillArea c r) o h =
-    whole_area s r (drawn_cell g.cursor.look (shown g.cursor c)) g refl refl h
+    whole_area s r (drawn_cell g.cursor.look (drawn_character g.cursor c)) g refl refl h
 whole_change s g change.Align o h = whole_aligned s g h
 
 -- ---- settings

@@ -4,7 +4,7 @@ use Rattle.std.proofs.lemmas.Bool.{cases_Bool, cases_lt}
 use Rattle.std.proofs.Math.Seq.{take-append_seam}
 use Rattle.std.proofs.lemmas.List.{drop_all, get_or-drop, get_or-set_other, get_or_past, set-get_or, take_all}
 use Rattle.esc_screen.specs.Lists.{in_part}
-use Rattle.esc_screen.specs.Cells.{blank, cleared_cells, cut_row, drawn_cell, emptied_cells, erased_cells, is_rest, marked_cell, marked_cells, put, put_all, put_wide, start_of}
+use Rattle.esc_screen.specs.Cells.{blank, cleared_cells, cut_row, drawn_cell, emptied_cells, erased_cells, is_rest, marked_cell, marked_cells, cells_with, put_all, put_wide, start_of}
 use Rattle.esc_screen.specs.Used.{IsUnusedFrom}
 use Rattle.esc_screen.specs.declared.cell.Cell.{Cell}
 use Rattle.esc_screen.proofs.Free.{cut_same}
@@ -57,7 +57,7 @@ unused_cut n m xs h =
     ]
 
 pub unused_put : (n m l c : ℕ) (xs : List Cell) → m < n → IsUnusedFrom n xs
-    → IsUnusedFrom n (put m l c xs)
+    → IsUnusedFrom n (cells_with m l c xs)
 unused_put n m l c xs less h =
     unused_set n m (drawn_cell l c) _ less
     (unused_cut n (m + 1) (cut_row m xs) (unused_cut n m xs h))
@@ -68,7 +68,7 @@ unused_put_all n m l [] xs few h = h
 unused_put_all n m l (c ∷ cs) xs few h =
     let less : m < n = omega (arith, few) in
     let later : m + 1 + length cs ≤ n = omega (arith, few) in
-    unused_put_all n (m + 1) l cs (put m l c xs) later (unused_put n m l c xs less h)
+    unused_put_all n (m + 1) l cs (cells_with m l c xs) later (unused_put n m l c xs less h)
 
 pub unused_put_wide : (n m l c : ℕ) (xs : List Cell) → m + 2 ≤ n → IsUnusedFrom n xs
     → IsUnusedFrom n (put_wide m l c xs)

@@ -1,7 +1,7 @@
 -- The changes of rectangles.
 use Rattle.std.specs.Prelude.{ℕ, ◌+◌, nat_lt, Bool, ◌&&◌, if◌then◌else◌, map}
 use Rattle.esc_screen.specs.Cells.{blank, drawn_cell, filled_part}
-use Rattle.esc_screen.specs.Cursors.{shown}
+use Rattle.esc_screen.specs.Cursors.{drawn_character}
 use Rattle.esc_screen.specs.Grids.{Grid, Size, in_rows}
 use Rattle.esc_screen.specs.Motions.{column_by, row_by}
 use Rattle.esc_screen.specs.declared.area.Area.{Area}
@@ -32,4 +32,4 @@ area_erased s r g = area_filled s r (blank g.cursor.erased) g
 
 -- or a character of one column, as it is shown
 abbrev pub area_drawn : Size → ℕ → Area → Grid → Grid
-area_drawn s c r g = area_filled s r (drawn_cell g.cursor.look (shown g.cursor c)) g
+area_drawn s c r g = area_filled s r (drawn_cell g.cursor.look (drawn_character g.cursor c)) g

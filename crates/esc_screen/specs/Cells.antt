@@ -96,13 +96,13 @@ cut_row n xs = if is_rest (get_or xs n (blank 0)) then emptied_cells n (emptied_
     else xs
 
 -- with a character of one column at a column
-abbrev pub put : ℕ → ℕ → ℕ → List Cell → List Cell
-put n l c xs = set (cut_row (n + 1) (cut_row n xs)) n (drawn_cell l c)
+abbrev pub cells_with : ℕ → ℕ → ℕ → List Cell → List Cell
+cells_with n l c xs = set (cut_row (n + 1) (cut_row n xs)) n (drawn_cell l c)
 
 -- with characters of one column each, one after another
 abbrev pub put_all : ℕ → ℕ → List ℕ → List Cell → List Cell
 put_all n l [] xs = xs
-put_all n l (c ∷ cs) xs = put_all (n + 1) l cs (put n l c xs)
+put_all n l (c ∷ cs) xs = put_all (n + 1) l cs (cells_with n l c xs)
 
 -- none of the first so many cells, nor the next one, is the second half of a wide one
 abbrev pub is_free : ℕ → List Cell → Bool

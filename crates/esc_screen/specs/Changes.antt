@@ -62,14 +62,14 @@ alignment_grid s g = grid_at 0 0
     (with_margins 0 s.rows (with_rows (map (filled_cells (drawn_cell 0 0x45)) g.rows) g))
 
 -- to the next row, and to its first column where a line feed returns
-abbrev pub fed : Size → Bool → Grid → Grid
-fed s returns g = if returns then next_line s g else line_fed s g
+abbrev pub next_row : Size → Bool → Grid → Grid
+next_row s returns g = if returns then next_line s g else line_fed s g
 
 abbrev pub grid_by_change : Size → Grid → Change → Grid
 grid_by_change s g change.Index = line_fed s g
 grid_by_change s g change.ReverseIndex = line_fed_back g
-grid_by_change s g change.LineFeed = fed s (s.returns || g.modes.new_line) g
-grid_by_change s g change.FormFeed = fed s g.modes.new_line g
+grid_by_change s g change.LineFeed = next_row s (s.returns || g.modes.new_line) g
+grid_by_change s g change.FormFeed = next_row s g.modes.new_line g
 grid_by_change s g change.NextLine = next_line s g
 grid_by_change s g change.EraseRight = cells_erased g.cursor.column s.columns g
 grid_by_change s g change.EraseLeft = cells_erased 0 (g.cursor.column + 1) g

@@ -61,8 +61,8 @@ character_in t c = if nat_lt c 0x5f then c else get_or t (c - 0x5f) c
 abbrev pub line_drawing : ℕ → ℕ
 line_drawing c = character_in DRAWING c
 
-abbrev pub shown : Cursor → ℕ → ℕ
-shown k c = if draws k then line_drawing c else c
+abbrev pub drawn_character : Cursor → ℕ → ℕ
+drawn_character k c = if draws k then line_drawing c else c
 
 -- ---- modes
 

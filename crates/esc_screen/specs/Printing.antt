@@ -1,8 +1,8 @@
 -- Characters that are printed.
 use Rattle.std.specs.Prelude.{ℕ, ◌+◌, ◌-◌, nat_lt, min, Bool, ◌&&◌, ◌||◌, not, if◌then◌else◌}
 use Rattle.esc_screen.specs.Lists.{times}
-use Rattle.esc_screen.specs.Cells.{content_at, inserted_cells, joined_at, marked_cells, put, put_wide}
-use Rattle.esc_screen.specs.Cursors.{draws, landed_cursor, shown}
+use Rattle.esc_screen.specs.Cells.{content_at, inserted_cells, joined_at, marked_cells, cells_with, put_wide}
+use Rattle.esc_screen.specs.Cursors.{draws, landed_cursor, drawn_character}
 use Rattle.esc_screen.specs.Grids.{Grid, Size, in_row, next_line, row_of_cursor, settled_grid, with_cursor}
 use Rattle.esc_screen.specs.declared.content.Content.{Content}
 use Rattle.esc_screen.specs.declared.content.Content.TheVariants as content
@@ -13,12 +13,12 @@ grid_past s n g = with_cursor (landed_cursor s.columns g.modes.wraps (g.cursor.c
     g
 
 -- the row of the cursor, which is in its last column, goes on in the next one
-abbrev pub joined : Grid → Grid
-joined g = in_row (joined_at g.cursor.column) g
+abbrev pub row_gone_on : Grid → Grid
+row_gone_on g = in_row (joined_at g.cursor.column) g
 
 -- to the next row, where lines wrap
 abbrev pub wrapped_past : Size → Grid → Grid
-wrapped_past s g = if g.modes.wraps then next_line s (joined g) else settled_grid g
+wrapped_past s g = if g.modes.wraps then next_line s (row_gone_on g) else settled_grid g
 
 -- where a character of one column comes: the wrap that is pending is done
 abbrev pub wrapped_grid : Size → Grid → Grid
@@ -27,7 +27,7 @@ wrapped_grid s g = if g.cursor.pending then wrapped_past s g else g
 -- where one of two columns comes
 abbrev pub wrapped_wide : Size → Grid → Grid
 wrapped_wide s g = if nat_lt (g.cursor.column + 1) s.columns then wrapped_grid s g
-    else next_line s (joined g)
+    else next_line s (row_gone_on g)
 
 -- in the mode IRM, room for a character of so many columns
 abbrev pub grid_with_room : Size → ℕ → Grid → Grid
@@ -37,14 +37,14 @@ grid_with_room s n g = if g.modes.inserts
 
 -- with a character of one column at the cursor, which is past it then
 abbrev pub grid_with_character : Size → ℕ → Grid → Grid
-grid_with_character s c g = grid_past s 1 (in_row (put g.cursor.column g.cursor.look c) g)
+grid_with_character s c g = grid_past s 1 (in_row (cells_with g.cursor.column g.cursor.look c) g)
 
 abbrev pub printed_wide : Size → ℕ → Grid → Grid
 printed_wide s c g = grid_past s 2 (in_row (put_wide g.cursor.column g.cursor.look c) g)
 
 -- with a character of one column, where no wrap is pending
 abbrev pub narrow_put : Size → ℕ → Grid → Grid
-narrow_put s c g = grid_with_character s (shown g.cursor c) (grid_with_room s 1 g)
+narrow_put s c g = grid_with_character s (drawn_character g.cursor c) (grid_with_room s 1 g)
 
 abbrev pub narrow_printed : Size → ℕ → Grid → Grid
 narrow_printed s c g = narrow_put s c (wrapped_grid s g)

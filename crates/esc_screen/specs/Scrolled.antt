@@ -2,7 +2,7 @@
 use Rattle.std.specs.Prelude.{ℕ, ◌+◌, ◌≡◌, ◌==◌, min, nat_lt, Bool, true, ◌&&◌, not, if◌then◌else◌, List, [], ◌∷◌, ◌++◌, take, drop, map, replicate}
 use Rattle.esc_screen.specs.Cells.{cleared_cells}
 use Rattle.esc_screen.specs.Grids.{Grid, Size, rows_up}
-use Rattle.esc_screen.specs.Printing.{before, has_room, joined}
+use Rattle.esc_screen.specs.Printing.{before, has_room, row_gone_on}
 use Rattle.esc_screen.specs.Steps.{grid_by, grid_from}
 use Rattle.esc_screen.specs.declared.cell.Cell.{Cell}
 use Rattle.esc_screen.specs.declared.change.Change.{Change}
@@ -61,11 +61,11 @@ gone_by s g _ = 0
 
 -- the row of the cursor, where a wrap that is pending is done, goes on in the next one
 abbrev pub joined_narrow : Grid → Grid
-joined_narrow g = if g.cursor.pending && g.modes.wraps then joined g else g
+joined_narrow g = if g.cursor.pending && g.modes.wraps then row_gone_on g else g
 
 abbrev pub joined_wide : Size → Grid → Grid
 joined_wide s g = if has_room s g
-    then if nat_lt (g.cursor.column + 1) s.columns then joined_narrow g else joined g
+    then if nat_lt (g.cursor.column + 1) s.columns then joined_narrow g else row_gone_on g
     else g
 
 -- the grid that a step takes rows off: that before it, where it says that a row goes on

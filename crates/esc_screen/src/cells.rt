@@ -1,6 +1,6 @@
 //! The cells of a row.
 ghost use Rattle.std.specs.Prelude.{◌≡◌, ◌+◌, ◌<◌, ◌≤◌, ◌^◌, drop, length, map, true};
-ghost use Rattle.esc_screen.specs.Cells.{cleared_cells, content_at, cut_row, deleted_cells, drawn_cell, emptied_cells, erased_cells, filled_cells, filled_part, inserted_cells, is_free, joined_at, mark_at, marked_cells, put, put_all, put_wide, start_of};
+ghost use Rattle.esc_screen.specs.Cells.{cleared_cells, content_at, cut_row, deleted_cells, drawn_cell, emptied_cells, erased_cells, filled_cells, filled_part, inserted_cells, is_free, joined_at, mark_at, marked_cells, cells_with, put_all, put_wide, start_of};
 ghost use Rattle.esc_screen.specs.Lists.{in_part, moved_down, moved_up};
 
 use crate::cell::Cell;
@@ -32,7 +32,7 @@ pub(crate) fn cut_at(cells: &mut [Cell], at: usize)
 #[inline]
 pub(crate) fn put_narrow(cells: &mut [Cell], at: usize, c: char, look: u16)
     requires { at + 1 < 2 ^ 64 }
-    ensures { cells.new ≡ put at look c cells.old }
+    ensures { cells.new ≡ cells_with at look c cells.old }
 {
     cut_at(cells, at);
     cut_at(cells, at + 1);

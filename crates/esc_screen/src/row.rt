@@ -1,6 +1,6 @@
 //! A row of cells.
 ghost use Rattle.std.specs.Prelude.{◌≡◌, ◌+◌, ◌<◌, ◌^◌, IfOk, OnErr, length};
-ghost use Rattle.esc_screen.specs.Cells.{blank_row, cleared_cells, content_at, deleted_cells, erased_cells, filled_cells, filled_part, inserted_cells, joined_at, marked_cells, put, put_all, put_wide, shifted_cells};
+ghost use Rattle.esc_screen.specs.Cells.{blank_row, cleared_cells, content_at, deleted_cells, erased_cells, filled_cells, filled_part, inserted_cells, joined_at, marked_cells, cells_with, put_all, put_wide, shifted_cells};
 ghost use Rattle.esc_screen.specs.Used.{IsUnusedFrom};
 ghost use Rattle.fallible_alloc.specs.Refusals.{Refused};
 
@@ -61,7 +61,7 @@ impl<A: Allocator> Row<A> {
     /// Puts a character of one column.
     pub fn put_narrow(&mut self, at: usize, c: char, look: u16)
         requires { at + 1 < 2 ^ 64 }
-        ensures { self.new ≡ put at look c self.old }
+        ensures { self.new ≡ cells_with at look c self.old }
     {
         cells::put_narrow(&mut self.cells, at, c, look);
         self.used = self.used.max(at + 1);

@@ -13,7 +13,7 @@ use Rattle.esc_sixel.specs.Lines.{Ends, fresh, number_after}
 use Rattle.esc_sixel.specs.Runs.{Keeps, param, separators, more_digit, more_digits}
 use Rattle.esc_sixel.proofs.DigitRuns.{digits_written}
 use Rattle.esc_sixel.specs.Meaning.{color_of, drawn_data, repeat_of}
-use Rattle.esc_sixel.specs.Steps.{HasConsumed, Pushes, HoldsOpen, Closed, closed_of, open_of, with_items, alone, opened_command}
+use Rattle.esc_sixel.specs.Steps.{HasConsumed, Pushes, HoldsOpen, Closed, closed_of, open_of, with_items, lone_item, opened_command}
 use Rattle.esc_sixel.specs.Taking.{with_data}
 use Rattle.esc_sixel.specs.declared.builder.SixelBuilder.{SixelBuilder}
 use Rattle.esc_sixel.specs.declared.class.Class.{Class}
@@ -70,7 +70,7 @@ with_drawn p bs = record p { sixel = record p.sixel { content = p.sixel.content 
 
 drawn_alone : {A : Type 0} (p : SixelBuilder A) (b : ℕ) (c : Class) → p.introducer ≡ None
     → c ≡ Pixels (b - 0x3f)
-    → ((with_drawn p (b ∷ [])).sixel ≡ with_items p.sixel (alone c b))
+    → ((with_drawn p (b ∷ [])).sixel ≡ with_items p.sixel (lone_item c b))
     × HoldsOpen (opened_command c) p.introducer p.parameters
 drawn_alone p b c none e = rw e (refl, none)
 
@@ -107,7 +107,7 @@ ends_class b d (inr h) = inr (rw h.0 refl, h.1)
 
 ended_alone : {A : Type 0} (s : Sixel A) (b : ℕ) (c : Class) (d : SixelData) (i : Option Introducer)
     (k : Parameters) → i ≡ None → EndsBy c d
-    → (with_data s d ≡ with_items s (alone c b)) × HoldsOpen (opened_command c) i k
+    → (with_data s d ≡ with_items s (lone_item c b)) × HoldsOpen (opened_command c) i k
 ended_alone s b c d i k none (inl h) = rw (h.0, h.1) (refl, none)
 ended_alone s b c d i k none (inr h) = rw (h.0, h.1) (refl, none)
 
@@ -243,10 +243,10 @@ number_kept ds r some k =
 pub selects : (ds r : List ℕ) (n : ℕ) → 0 < length ds → n ≡ number_after 0 ds → n < 10000
     → Keeps (more_digits fresh ds) r → SelectColorMapEntry n ≡ color_of r
 selects ds r n some e small k =
-    let alone : separators r ≡ 0 = omega (arith, k.count, count_stays fresh ds) in
+    let lone_item : separators r ≡ 0 = omega (arith, k.count, count_stays fresh ds) in
     let is : param r 0 ≡ Some n = number_kept ds r some k ∙ ap Some (sym e) in
     let fits : n ≡ min n 65535 = omega arith in
-    rw (alone, is) (ap SelectColorMapEntry fits)
+    rw (lone_item, is) (ap SelectColorMapEntry fits)
 
 pub repeats : (ds r : List ℕ) (n v : ℕ) → 0 < length ds → n ≡ number_after 0 ds → n < 10000
     → Keeps (more_digits fresh ds) r → Repeat v n ≡ repeat_of r v

@@ -8,7 +8,7 @@ use Rattle.std.proofs.lemmas.Bool.Decides.{nat_tests}
 use Rattle.std.proofs.lemmas.Fmt.{digits_decimal, digits_value-decimal, decimal_nonempty}
 use Rattle.std.proofs.lemmas.List.Folds.{list_all-append}
 use Rattle.std.proofs.lemmas.Str.Parse.{IsNumeralModel, numerals_by_fold}
-use Rattle.esc_values.specs.Clear.{joined}
+use Rattle.esc_values.specs.Clear.{semicolon_list}
 use Rattle.esc_values.specs.Params.{is_digit, value_after}
 use Rattle.esc_sixel.specs.Runs.{numbers_after, separators}
 use Rattle.esc_sixel.specs.Writable.{is_parameter_byte, is_data_byte}
@@ -79,12 +79,12 @@ all_some (n ∷ ns) = Some n ∷ all_some ns
 
 pub run_numbers : (p : List ℕ) (ps : List (List ℕ)) (n : ℕ) (ns : List ℕ)
     → AreSlices (p ∷ ps) (n ∷ ns)
-    → numbers_after None (joined (p ∷ ps)) ≡ Some n ∷ all_some ns
+    → numbers_after None (semicolon_list (p ∷ ps)) ≡ Some n ∷ all_some ns
 run_numbers p [] n [] h = ap (numbers_after None) (append-nil p) ∙ slice_last p n h.0
 run_numbers p [] n (m ∷ ns) h = absurd h.1
 run_numbers p (q ∷ ps) n [] h = absurd h.1
 run_numbers p (q ∷ ps) n (m ∷ ns) h =
-    slice_then p n (joined (q ∷ ps)) h.0 ∙ ap (λ r. Some n ∷ r) (run_numbers q ps m ns h.1)
+    slice_then p n (semicolon_list (q ∷ ps)) h.0 ∙ ap (λ r. Some n ∷ r) (run_numbers q ps m ns h.1)
 
 -- how many separators it has
 passes_digits : (ds rest : List ℕ) → are_digits ds ≡ true
@@ -96,14 +96,15 @@ passes_digits (d ∷ ds) rest h =
 
 pub run_separators : (p : List ℕ) (ps : List (List ℕ)) (n : ℕ) (ns : List ℕ)
     → AreSlices (p ∷ ps) (n ∷ ns)
-    → separators (joined (p ∷ ps)) ≡ length ps
+    → separators (semicolon_list (p ∷ ps)) ≡ length ps
 run_separators p [] n [] h = passes_digits p [] h.0.digits
 run_separators p [] n (m ∷ ns) h = absurd h.1
 run_separators p (q ∷ ps) n [] h = absurd h.1
 run_separators p (q ∷ ps) n (m ∷ ns) h =
-    let more : separators (joined (q ∷ ps)) ≡ length ps = run_separators q ps m ns h.1 in
-    let here : separators (p ++ 0x3b ∷ joined (q ∷ ps)) ≡ separators (0x3b ∷ joined (q ∷ ps)) =
-    passes_digits p (0x3b ∷ joined (q ∷ ps)) h.0.digits in
+    let more : separators (semicolon_list (q ∷ ps)) ≡ length ps = run_separators q ps m ns h.1 in
+    let here : separators (p ++ 0x3b ∷ semicolon_list (q ∷ ps))
+        ≡ separators (0x3b ∷ semicolon_list (q ∷ ps)) =
+    passes_digits p (0x3b ∷ semicolon_list (q ∷ ps)) h.0.digits in
     here ∙ (omega (arith, more))
 
 -- its bytes
@@ -121,13 +122,14 @@ digit_bytes (d ∷ ds) h =
 
 pub run_bytes : (p : List ℕ) (ps : List (List ℕ)) (n : ℕ) (ns : List ℕ)
     → AreSlices (p ∷ ps) (n ∷ ns)
-    → list_all is_parameter_byte (joined (p ∷ ps)) ≡ true
+    → list_all is_parameter_byte (semicolon_list (p ∷ ps)) ≡ true
 run_bytes p [] n [] h = ap (list_all is_parameter_byte) (append-nil p) ∙ digit_bytes p h.0.digits
 run_bytes p [] n (m ∷ ns) h = absurd h.1
 run_bytes p (q ∷ ps) n [] h = absurd h.1
 run_bytes p (q ∷ ps) n (m ∷ ns) h =
-    let more : list_all is_parameter_byte (joined (q ∷ ps)) ≡ true = run_bytes q ps m ns h.1 in
-    list_all-append is_parameter_byte p (0x3b ∷ joined (q ∷ ps))
+    let more : list_all is_parameter_byte (semicolon_list (q ∷ ps))
+        ≡ true = run_bytes q ps m ns h.1 in
+    list_all-append is_parameter_byte p (0x3b ∷ semicolon_list (q ∷ ps))
     ∙ rw (digit_bytes p h.0.digits) more
 
 pub data_bytes : (r : List ℕ) → list_all is_parameter_byte r ≡ true → list_all is_data_byte r ≡ true

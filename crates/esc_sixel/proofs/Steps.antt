@@ -9,7 +9,7 @@ use Rattle.esc_sixel.specs.Classes.{class_of}
 use Rattle.esc_sixel.specs.Items.{Item, OfRepeat, OfColor, OfRaster, OfJunk, Outside, InRepeat, InRun}
 use Rattle.esc_sixel.specs.Items.{run_of, after_run, first_pixels, begun_place, item_of, items_at, items}
 use Rattle.esc_sixel.specs.Meaning.{sixel_of, raster_pan, raster_pad, raster_sizes, is_oversize, gives, last_of, after_last}
-use Rattle.esc_sixel.specs.Steps.{Open, Closed, In, ended_items, alone, closed_by, opened_command, open_by, closed_of, open_of, with_item, with_items, HoldsOpen}
+use Rattle.esc_sixel.specs.Steps.{Open, Closed, In, ended_items, lone_item, closed_by, opened_command, open_by, closed_of, open_of, with_item, with_items, HoldsOpen}
 use Rattle.esc_sixel.specs.declared.parameters.Parameters.{Parameters}
 use Rattle.esc_sixel.specs.declared.sixel.Sixel.{Sixel}
 use Rattle.esc_sixel.specs.declared.class.Class.{Class}
@@ -192,11 +192,12 @@ pub after_none : {A : Type 0} {T E : Type 0} (ps : List ℤ) (is : List Item) (o
     (b : ℕ)
     (old new : Sixel A) (was is_now : Option Introducer) (kept keeps : Parameters) (r : Result T E)
     → old ≡ sixel_of ps is → HoldsOpen o was kept → was ≡ None
-    → OnOk r ((new ≡ with_items old (alone c b)) × HoldsOpen (opened_command c) is_now keeps)
+    → OnOk r ((new ≡ with_items old (lone_item c b)) × HoldsOpen (opened_command c) is_now keeps)
     → OnOk r ((new ≡ sixel_of ps (is ++ closed_by o c b)) × HoldsOpen (open_by o c b) is_now keeps)
 after_none {A = A} ps is Closed c b old new was is_now kept keeps r so h none did =
     on_ok r (λ d. (
-      d.0 ∙ ap (λ s. with_items s (alone c b)) so ∙ sym (sixel_append {A = A} ps is (alone c b)),
+      d.0 ∙ ap (λ s. with_items s (lone_item c b)) so ∙ sym
+          (sixel_append {A = A} ps is (lone_item c b)),
       d.1,
     )) did
 after_none ps is (In m q) c b old new was is_now kept keeps r so h none did =

@@ -7,7 +7,7 @@ use Rattle.std.specs.Option.{option_map, unwrap_or, is_some}
 use Rattle.std.specs.Fmt.{decimal, signed_decimal}
 use Rattle.std.proofs.lemmas.Bool.{le-leb}
 use Rattle.std.proofs.lemmas.List.Folds.{list_all-append}
-use Rattle.esc_values.specs.Clear.{joined}
+use Rattle.esc_values.specs.Clear.{semicolon_list}
 use Rattle.esc_values.specs.Params.{capped_at_i64}
 use Rattle.esc_values.specs.Scalars.{and_then, some_if}
 use Rattle.esc_sixel.proofs.Headers.{Means, MeansIn, means, flag_number, grid_list, params_plain, params_first, flag_back, grid_back, background_bytes}
@@ -141,7 +141,7 @@ text_first s d = simp (append_assoc, append-nil) refl
 text_ratio : {A : Type 0} (s : Sixel A)
     → header_by None None s ++ content_text s.content
     ≡ 0x1b ∷ 0x50 ∷ ((0x3b ∷ background_text s.background_is_transparent s.horizontal_grid_size)
-    ++ 0x71 ∷ 0x22 ∷ (joined (signed_decimal s.pan ∷ signed_decimal s.pad ∷ [])
+    ++ 0x71 ∷ 0x22 ∷ (semicolon_list (signed_decimal s.pan ∷ signed_decimal s.pad ∷ [])
     ++ content_text s.content))
 text_ratio s = simp (append_assoc, append-nil) refl
 
@@ -155,16 +155,16 @@ pair_then : (p q r : List ℕ) → ((p ++ semi) ++ q) ++ r ≡ p ++ 0x3b ∷ (q 
 pair_then p q r = append_assoc (p ++ semi) q r ∙ append_assoc p semi (q ++ r)
 
 joined_then : (p q w h c : List ℕ)
-    → joined (p ∷ q ∷ w ∷ h ∷ []) ++ c ≡ p ++ 0x3b ∷ (q ++ 0x3b ∷ (w ++ 0x3b ∷ (h ++ c)))
+    → semicolon_list (p ∷ q ∷ w ∷ h ∷ []) ++ c ≡ p ++ 0x3b ∷ (q ++ 0x3b ∷ (w ++ 0x3b ∷ (h ++ c)))
 joined_then p q w h c =
-    append_assoc p (0x3b ∷ joined (q ∷ w ∷ h ∷ [])) c
-    ∙ ap (λ r. p ++ 0x3b ∷ r) (append_assoc q (0x3b ∷ joined (w ∷ h ∷ [])) c
-    ∙ ap (λ r. q ++ 0x3b ∷ r) (append_assoc w (0x3b ∷ joined (h ∷ [])) c
+    append_assoc p (0x3b ∷ semicolon_list (q ∷ w ∷ h ∷ [])) c
+    ∙ ap (λ r. p ++ 0x3b ∷ r) (append_assoc q (0x3b ∷ semicolon_list (w ∷ h ∷ [])) c
+    ∙ ap (λ r. q ++ 0x3b ∷ r) (append_assoc w (0x3b ∷ semicolon_list (h ∷ [])) c
     ∙ ap (λ r. w ++ 0x3b ∷ (r ++ c)) (append-nil h)))
 
 regroup : (b p q w h c : List ℕ)
     → ((((b ++ opening) ++ ((p ++ semi) ++ q)) ++ semi) ++ ((w ++ semi) ++ h)) ++ c
-    ≡ b ++ 0x71 ∷ 0x22 ∷ (joined (p ∷ q ∷ w ∷ h ∷ []) ++ c)
+    ≡ b ++ 0x71 ∷ 0x22 ∷ (semicolon_list (p ∷ q ∷ w ∷ h ∷ []) ++ c)
 regroup b p q w h c =
     append_assoc (((b ++ opening) ++ ((p ++ semi) ++ q)) ++ semi) ((w ++ semi) ++ h) c
     ∙ append_assoc ((b ++ opening) ++ ((p ++ semi) ++ q)) semi (((w ++ semi) ++ h) ++ c)
@@ -178,7 +178,7 @@ text_sizes : {A : Type 0} (s : Sixel A) (w h : ℕ) (m : Option (List ℕ)) → 
     → header_by (Some w) m s ++ content_text s.content
     ≡ 0x1b ∷ 0x50 ∷ ((0x3b ∷ background_text s.background_is_transparent s.horizontal_grid_size)
     ++ 0x71 ∷ 0x22
-    ∷ (joined (signed_decimal s.pan ∷ signed_decimal s.pad ∷ decimal w ∷ decimal h ∷ [])
+    ∷ (semicolon_list (signed_decimal s.pan ∷ signed_decimal s.pad ∷ decimal w ∷ decimal h ∷ [])
     ++ content_text s.content))
 text_sizes s w h m e =
     let b = background_text s.background_is_transparent s.horizontal_grid_size in
@@ -234,7 +234,7 @@ writes_ratio {A = A} s form w h ok =
     let data_ok = ok.1.1.1.1 in
     let grid_ok = ok.1.1.1.0 in
     let ps = pos 0 ∷ flag_number t ∷ grid_list g in
-    let run = joined (signed_decimal s.pan ∷ signed_decimal s.pad ∷ []) in
+    let run = semicolon_list (signed_decimal s.pan ∷ signed_decimal s.pad ∷ []) in
     let slices : AreSlices (signed_decimal s.pan ∷ signed_decimal s.pad ∷ []) (natural s.pan
     ∷ natural s.pad ∷ []) =
     (natural_slice s.pan ok.0, (natural_slice s.pad ok.1.0, tt)) in
@@ -281,7 +281,7 @@ writes_sizes {A = A} s x y w h small ok =
     let y_small = small.1.0 in
     let texts = signed_decimal s.pad ∷ decimal x ∷ decimal y ∷ [] in
     let ns = natural s.pad ∷ x ∷ y ∷ [] in
-    let run = joined (signed_decimal s.pan ∷ texts) in
+    let run = semicolon_list (signed_decimal s.pan ∷ texts) in
     let slices : AreSlices (signed_decimal s.pan ∷ texts) (natural s.pan ∷ ns) = (
       natural_slice s.pan ok.0,
       (

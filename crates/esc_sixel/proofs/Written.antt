@@ -7,7 +7,7 @@ use Rattle.std.specs.Fmt.{decimal}
 use Rattle.std.proofs.lemmas.Bool.{eqb-true, cases_Bool, and_parts}
 use Rattle.std.proofs.lemmas.Bool.Decides.{nat_tests}
 use Rattle.std.proofs.lemmas.List.Folds.{list_all-append}
-use Rattle.esc_values.specs.Clear.{joined}
+use Rattle.esc_values.specs.Clear.{semicolon_list}
 use Rattle.esc_values.specs.Params.{capped_at_i64, is_digit}
 use Rattle.esc_sixel.proofs.Slices.{are_digits, AreSlices, IsSlice, decimal_slice, slice_last, run_numbers, run_separators, run_bytes, digit_bytes, data_bytes}
 use Rattle.esc_sixel.specs.Classes.{class_of}
@@ -154,7 +154,7 @@ abbrev rgb_numbers : ℕ × ℕ × ℕ → List ℕ
 rgb_numbers c = 2 ∷ least_percent c.0 ∷ least_percent c.1 ∷ least_percent c.2 ∷ []
 
 abbrev rgb_run : ℕ → ℕ × ℕ × ℕ → List ℕ
-rgb_run n c = joined (decimal n ∷ rgb_texts c)
+rgb_run n c = semicolon_list (decimal n ∷ rgb_texts c)
 
 abbrev hsl_texts : ℕ → ℕ → ℕ → List (List ℕ)
 hsl_texts h l s = codes "1" ∷ decimal h ∷ decimal l ∷ decimal s ∷ []
@@ -163,7 +163,7 @@ abbrev hsl_numbers : ℕ → ℕ → ℕ → List ℕ
 hsl_numbers h l s = 1 ∷ h ∷ l ∷ s ∷ []
 
 abbrev hsl_run : ℕ → ℕ → ℕ → ℕ → List ℕ
-hsl_run n h l s = joined (decimal n ∷ hsl_texts h l s)
+hsl_run n h l s = semicolon_list (decimal n ∷ hsl_texts h l s)
 
 rgb_text : (n : ℕ) (c : ℕ × ℕ × ℕ) → data_text (DefineColorMapRGB n c) ≡ 0x23 ∷ rgb_run n c
 rgb_text n c = simp (append_assoc, append-nil) refl
@@ -260,7 +260,8 @@ hsl_back n h l s w =
     (hsl_same _ n _ h _ l _ s (held_short n w.0) (held_short h w.1.0) (held_byte l w.1.1.0)
     (held_byte s w.1.1.1))
 
-select_back : (n : ℕ) → n < 2 ^ 16 → color_of (joined (decimal n ∷ [])) ≡ SelectColorMapEntry n
+select_back : (n : ℕ) → n < 2 ^ 16 → color_of (semicolon_list (decimal n ∷ []))
+    ≡ SelectColorMapEntry n
 select_back n small =
     let slices : AreSlices (decimal n ∷ []) (n ∷ []) = (decimal_slice n (omega arith), tt) in
     rw (run_separators (decimal n) [] n [] slices, run_numbers (decimal n) [] n [] slices)
@@ -276,7 +277,7 @@ item_for (Data v) = OfPixels v
 item_for (Repeat v n) = OfRepeat (decimal n) (Some v)
 item_for (DefineColorMapRGB n c) = OfColor (rgb_run n c)
 item_for (DefineColorMapHSL n h l s) = OfColor (hsl_run n h l s)
-item_for (SelectColorMapEntry n) = OfColor (joined (decimal n ∷ []))
+item_for (SelectColorMapEntry n) = OfColor (semicolon_list (decimal n ∷ []))
 item_for CarriageReturn = OfReturn
 item_for NewLine = OfLine
 
@@ -290,7 +291,7 @@ content_stops (SelectColorMapEntry n ∷ ds) h = rw color_class refl
 content_stops (CarriageReturn ∷ ds) h = rw return_class refl
 content_stops (NewLine ∷ ds) h = rw line_class refl
 
-select_text : (n : ℕ) → data_text (SelectColorMapEntry n) ≡ 0x23 ∷ joined (decimal n ∷ [])
+select_text : (n : ℕ) → data_text (SelectColorMapEntry n) ≡ 0x23 ∷ semicolon_list (decimal n ∷ [])
 select_text n = simp append-nil refl
 
 pub content_items : (ds : List SixelData) → AreWritableData ds
@@ -322,9 +323,10 @@ content_items (SelectColorMapEntry n ∷ ds) h =
     let slices : AreSlices (decimal n ∷ []) (n ∷ []) =
     (decimal_slice n (omega (arith, small)), tt) in
     ap (λ t. items_at Outside (t ++ content_text ds)) (select_text n)
-    ∙ color_item (joined (decimal n ∷ [])) (content_text ds) (run_bytes (decimal n) [] n [] slices)
+    ∙ color_item (semicolon_list (decimal n ∷ [])) (content_text ds)
+        (run_bytes (decimal n) [] n [] slices)
     (content_stops ds h.1)
-    ∙ ap (λ r. OfColor (joined (decimal n ∷ [])) ∷ r) (content_items ds h.1)
+    ∙ ap (λ r. OfColor (semicolon_list (decimal n ∷ [])) ∷ r) (content_items ds h.1)
 content_items (CarriageReturn ∷ ds) h =
     rw return_class (ap (λ r. OfReturn ∷ r) (content_items ds h.1))
 content_items (NewLine ∷ ds) h = rw line_class (ap (λ r. OfLine ∷ r) (content_items ds h.1))

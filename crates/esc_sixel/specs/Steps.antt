@@ -28,18 +28,18 @@ ended_items (In introducer.Color r) = OfColor r ∷ []
 ended_items (In introducer.Raster r) = OfRaster r ∷ []
 
 -- the item of a byte outside a command, which no later byte changes
-abbrev pub alone : Class → ℕ → List Item
-alone Return b = OfReturn ∷ []
-alone Line b = OfLine ∷ []
-alone (Pixels v) b = OfPixels v ∷ []
-alone (Introduces m) b = []
-alone c b = OfJunk b ∷ []
+abbrev pub lone_item : Class → ℕ → List Item
+lone_item Return b = OfReturn ∷ []
+lone_item Line b = OfLine ∷ []
+lone_item (Pixels v) b = OfPixels v ∷ []
+lone_item (Introduces m) b = []
+lone_item c b = OfJunk b ∷ []
 
 -- the items that a byte closes, and the command that is open after it
 abbrev pub closed_by : Open → Class → ℕ → List Item
-closed_by Closed c b = alone c b
+closed_by Closed c b = lone_item c b
 closed_by (In introducer.Repeat r) (Pixels v) b = OfRepeat r (Some v) ∷ []
-closed_by (In m r) c b = if in_run c then [] else ended_items (In m r) ++ alone c b
+closed_by (In m r) c b = if in_run c then [] else ended_items (In m r) ++ lone_item c b
 
 abbrev pub opened_command : Class → Open
 opened_command (Introduces m) = In m []

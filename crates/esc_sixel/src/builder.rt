@@ -8,7 +8,7 @@ ghost use Rattle.esc_sixel.specs.Items.{items, OfRaster, OfColor};
 ghost use Rattle.esc_sixel.specs.Meaning.{sixel_of, header_pan, is_one};
 ghost use Rattle.esc_sixel.specs.Runs.{Keeps};
 ghost use Rattle.esc_sixel.specs.declared.class.Class.TheVariants.{Pixels};
-ghost use Rattle.esc_sixel.specs.Steps.{add_to, ended_items, alone, HasConsumed, HoldsOpen, In, Pushes, closed_by, open_by, opened_command, with_item, with_items};
+ghost use Rattle.esc_sixel.specs.Steps.{add_to, ended_items, lone_item, HasConsumed, HoldsOpen, In, Pushes, closed_by, open_by, opened_command, with_item, with_items};
 ghost use Rattle.esc_sixel.specs.Steps.{Closed, gives_at_end, is_data, wants_memory};
 ghost use Rattle.esc_sixel.specs.Taking.{AreOutside, ComesOutside, TakesFirst, with_slice};
 ghost use Rattle.esc_sixel.specs.declared.introducer.Introducer.TheVariants.{Color};
@@ -467,7 +467,8 @@ impl<A: Allocator> SixelBuilder<A> {
     #[inline(always)]
     fn push_alone(&mut self, byte: u8) -> Result<(), AllocError>
         ensures ok { (b : ℕ) → HoldsOpen Closed self.old.introducer self.old.parameters
-            → OnOk result ((self.new.sixel ≡ with_items self.old.sixel (alone (class_of byte) b))
+            → OnOk result
+            ((self.new.sixel ≡ with_items self.old.sixel (lone_item (class_of byte) b))
             × HoldsOpen (opened_command (class_of byte)) self.new.introducer self.new.parameters) }
         ensures err { OnErr result (self.new ≡ self.old) }
         ensures refused { OnErr result (Refused A) }

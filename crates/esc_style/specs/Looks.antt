@@ -160,10 +160,10 @@ look_styles l = foreground_style (seen_foreground l)
     ∷ []
 
 -- the ones that are there
-abbrev pub present : {X : Type 0} → List (Option X) → List X
-present [] = []
-present (None ∷ xs) = present xs
-present (Some x ∷ xs) = x ∷ present xs
+abbrev pub values_of : {X : Type 0} → List (Option X) → List X
+values_of [] = []
+values_of (None ∷ xs) = values_of xs
+values_of (Some x ∷ xs) = x ∷ values_of xs
 
 -- a look with neither a class nor a style needs no span
 abbrev pub is_plain : Look → Bool

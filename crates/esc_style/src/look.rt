@@ -3,7 +3,7 @@ ghost use Rattle.std.specs.Prelude.{◌≡◌, is_none};
 ghost use Rattle.std.specs.List.{list_all};
 ghost use Rattle.esc_style.specs.Looks.{background_class, background_style, class_if, foreground_class, foreground_style, is_blinking, is_plain, look_after, look_by, look_by_all, look_by_optional, look_classes, look_styles, plain_look, seen_foreground, shown_background, shown_foreground, underline_class, underline_color_class, underline_color_style, with_intensity};
 ghost use Rattle.esc_sequences.specs.Csis.{csi_value};
-ghost use Rattle.typed_functions.specs.Selections.{left};
+ghost use Rattle.typed_functions.specs.Selections.{renditions_left};
 
 use crate::class::Class;
 use crate::color::Color;
@@ -118,7 +118,7 @@ impl Look {
 
     // Takes renditions, one after another.
     pub fn select_all(&mut self, renditions: Renditions<'_>)
-        ensures { self.new ≡ look_by_all self.old (left renditions.entry) }
+        ensures { self.new ≡ look_by_all self.old (renditions_left renditions.entry) }
     {
         for selection in renditions {
             self.select_optional(selection.rendition);

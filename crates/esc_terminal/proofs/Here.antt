@@ -8,7 +8,7 @@ use Rattle.esc_actions.specs.declared.action.Action.TheVariants as action
 use Rattle.esc_parse.specs.Given.{Receives}
 use Rattle.esc_parse.proofs.TextRuns.{refuses_run}
 use Rattle.esc_screen.specs.Cells.{inserted_cells}
-use Rattle.esc_screen.specs.Cursors.{shown}
+use Rattle.esc_screen.specs.Cursors.{drawn_character}
 use Rattle.esc_screen.specs.Grids.{Grid, Size, in_row}
 use Rattle.esc_screen.specs.Printing.{grid_with_character, narrow_printed, narrow_put}
 use Rattle.esc_screen.specs.Screens.{grid_of, size_of}
@@ -60,7 +60,7 @@ printed_cursor : (s : Size) (c : ℕ) (g : Grid) → g.cursor.pending ≡ false
 printed_cursor s c g ready less =
     ap (λ z. (narrow_put s c z).cursor) (not_wrapped s g ready) ∙ by g.modes.inserts
   where
-    by : (b : Bool) → (grid_with_character s (shown g.cursor c) (if b
+    by : (b : Bool) → (grid_with_character s (drawn_character g.cursor c) (if b
         then in_row (inserted_cells g.cursor.erased 1 g.cursor.column s.columns) g
         else g)).cursor ≡ record (g.cursor) { column = g.cursor.column + 1 }
     by true = landed_in s g.modes.wraps (g.cursor.column + 1) g less
@@ -68,8 +68,8 @@ printed_cursor s c g ready less =
 
 none_off : (s : Size) (c : ℕ) (g : Grid) → has_column c ≡ true → g.cursor.pending ≡ false
     → off_from s g (print_step c ∷ []) ≡ []
-none_off s c g shown ready =
-    ap (λ x. off_from s g (x ∷ [])) (step_is c shown)
+none_off s c g drawn_character ready =
+    ap (λ x. off_from s g (x ∷ [])) (step_is c drawn_character)
     ∙ ap (λ (b : Bool). (take (if b && g.modes.wraps then gone_fed g else 0) (joined_narrow g).rows
     ++ []) ++ []) ready
 
@@ -77,10 +77,11 @@ one_kept : {R A : Type 0} (takes : R → Row → R → Type 0) (c : ℕ) (p : Ke
     → has_column c ≡ true → p.state.screen.cursor.pending ≡ false
     → Takes p.state (action.Print c) j
     → KeepsAction takes p (action.Print c) (record p { state = j })
-one_kept takes c p j shown ready h = (
+one_kept takes c p j drawn_character ready h = (
   h,
   subst (λ rs. FoldsTo takes p.rows (with_known (known_in p.state) rs) p.rows)
-      (sym (none_off (size_of p.state.screen) c (grid_of p.state.screen) shown ready)) refl,
+      (sym (none_off (size_of p.state.screen) c (grid_of p.state.screen) drawn_character ready))
+          refl,
 )
 
 -- a terminal that hands out rows takes characters as others do

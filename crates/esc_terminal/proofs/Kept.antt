@@ -2,10 +2,10 @@
 use Rattle.std.proofs.Common.{ℕ, ◌≡◌, ◌+◌, ◌-◌, ◌==◌, Bool, true, false, List, ◌++◌, length, map, take, drop, if◌then◌else◌, refl, ap, sym, ◌∙◌, length-append, arith}
 use Rattle.std.proofs.lemmas.List.{length-map, length-set, take-append-drop}
 use Rattle.esc_screen.specs.Cells.{cleared_cells}
-use Rattle.esc_screen.specs.Cursors.{shown}
+use Rattle.esc_screen.specs.Cursors.{drawn_character}
 use Rattle.esc_screen.specs.Grids.{Grid, Size, line_fed, grid_at}
 use Rattle.esc_screen.specs.Lists.{in_part, moved_up}
-use Rattle.esc_screen.specs.Printing.{joined, narrow_printed, grid_with_room, grid_with_character, wrapped_grid}
+use Rattle.esc_screen.specs.Printing.{row_gone_on, narrow_printed, grid_with_room, grid_with_character, wrapped_grid}
 
 -- ---- lengths
 
@@ -75,17 +75,17 @@ kept_fed s g = kept_if (g.cursor.row + 1 == g.bottom) g _ _
       rest = refl;
     })
 
-kept_joined : (g : Grid) → IsKept g (joined g)
+kept_joined : (g : Grid) → IsKept g (row_gone_on g)
 kept_joined g = record {
   count = length-set g.rows g.cursor.row _;
   rest = refl;
 }
 
 kept_wrapped : (s : Size) (g : Grid) → IsKept g (wrapped_grid s g)
-kept_wrapped s g = let f = line_fed s (joined g) in kept_if g.cursor.pending g _ _
+kept_wrapped s g = let f = line_fed s (row_gone_on g) in kept_if g.cursor.pending g _ _
     (kept_if g.modes.wraps g _ _
-    (kept_then g (joined g) _ (kept_joined g)
-    (kept_then (joined g) f _ (kept_fed s (joined g)) (kept_moved f.cursor.row 0 f)))
+    (kept_then g (row_gone_on g) _ (kept_joined g)
+    (kept_then (row_gone_on g) f _ (kept_fed s (row_gone_on g)) (kept_moved f.cursor.row 0 f)))
     (kept_moved g.cursor.row g.cursor.column g))
     (kept_same g)
 
@@ -108,4 +108,4 @@ kept_narrow s c g =
     let w = wrapped_grid s g in
     let o = grid_with_room s 1 w in
     kept_then g w _ (kept_wrapped s g)
-    (kept_then w o _ (kept_opened s 1 w) (kept_printed s (shown w.cursor c) o))
+    (kept_then w o _ (kept_opened s 1 w) (kept_printed s (drawn_character w.cursor c) o))

@@ -7,7 +7,7 @@ use Rattle.esc_links.specs.Hyperlinks.{link_in}
 use Rattle.esc_links.specs.declared.hyperlink.Hyperlink.{Hyperlink}
 use Rattle.esc_osc.specs.declared.command.OperatingSystemCommand.{OperatingSystemCommand}
 use Rattle.esc_osc.specs.declared.command.OperatingSystemCommand.TheVariants as command
-use Rattle.esc_values.specs.Clear.{joined}
+use Rattle.esc_values.specs.Clear.{semicolon_list}
 use Rattle.esc_values.specs.Cuts.{Pairs}
 use Rattle.esc_style.specs.Looks.{plain_look}
 use Rattle.esc_style.specs.declared.look.Look.{Look}
@@ -196,7 +196,7 @@ is_link_code _ = false
 -- the link of parameters and the parts of an address, between which there is a `;`
 abbrev pub link_with : {A : Type 0} → List ℕ → List (List ℕ) → Option (Option (Hyperlink A))
 link_with es [] = None
-link_with es (u ∷ us) = link_in es (joined (u ∷ us))
+link_with es (u ∷ us) = link_in es (semicolon_list (u ∷ us))
 
 -- the link of a command of these parts that has no other reading
 abbrev pub link_in_parts : {A : Type 0} → List (List ℕ) → Option (Option (Hyperlink A))

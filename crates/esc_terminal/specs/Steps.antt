@@ -219,8 +219,8 @@ standard_step b n = if n == 4 then Set (setting.Mode mode.Insert b)
     else if n == 20 then Set (setting.Mode mode.NewLine b)
     else Nothing
 
-abbrev pub chosen : Bool → Setting → Setting → Setting
-chosen b x y = if b then x else y
+abbrev pub setting_by : Bool → Setting → Setting → Setting
+setting_by b x y = if b then x else y
 
 -- DECCOLM, set or reset; DECSCNM, DECOM, DECAWM, DECTCEM; the mode of xterm that allows DECCOLM;
 -- the alternate screen and the saved cursor of xterm; synchronized output
@@ -231,10 +231,10 @@ private_step b n = if n == 3 then Set setting.Columns
     else if n == 7 then Set (setting.Mode mode.AutoWrap b)
     else if n == 25 then Set (setting.Mode mode.ShowCursor b)
     else if n == 40 then Set (setting.Mode mode.Columns b)
-    else if n == 47 then Set (chosen b setting.ShowAlternate setting.ShowMain)
-    else if n == 1047 then Set (chosen b setting.ShowAlternate setting.ClearAlternate)
-    else if n == 1048 then Set (chosen b setting.Save setting.Restore)
-    else if n == 1049 then Set (chosen b setting.EnterAlternate setting.LeaveAlternate)
+    else if n == 47 then Set (setting_by b setting.ShowAlternate setting.ShowMain)
+    else if n == 1047 then Set (setting_by b setting.ShowAlternate setting.ClearAlternate)
+    else if n == 1048 then Set (setting_by b setting.Save setting.Restore)
+    else if n == 1049 then Set (setting_by b setting.EnterAlternate setting.LeaveAlternate)
     else if n == 2026 then Set (setting.Mode mode.Synchronized b)
     else Nothing
 

@@ -1,7 +1,7 @@
 //! Links that come in parts: those with `;` in their address.
 ghost use Rattle.std.specs.Prelude.{◌≡◌, ◌++◌, IfOk, OnErr, OnOk};
 ghost use Rattle.esc_links.specs.Hyperlinks.{link_in};
-ghost use Rattle.esc_values.specs.Clear.{joined, separated_parts};
+ghost use Rattle.esc_values.specs.Clear.{semicolon_list, separated_parts};
 ghost use Rattle.esc_terminal.specs.Links.{is_link_code, link_in_parts, link_with};
 ghost use Rattle.fallible_alloc.specs.Refusals.{Refused};
 
@@ -59,7 +59,7 @@ fn read_link<A: Allocator + Copy>(
     params: &[u8],
     address: &[Items<u8, A>],
 ) -> Result<Option<Option<Hyperlink<A>>>, AllocError>
-    ensures ok { IfOk result (λ v. v ≡ link_in params.now (joined address.now)) }
+    ensures ok { IfOk result (λ v. v ≡ link_in params.now (semicolon_list address.now)) }
     ensures refused { OnErr result (Refused A) }
 {
     let mut uri = Vec::new(alloc);
@@ -88,7 +88,7 @@ fn push_joined<A: Allocator>(
     bytes: &mut Vec<u8, A>,
     parts: &[Items<u8, A>],
 ) -> Result<(), AllocError>
-    ensures ok { OnOk result (bytes.new.items ≡ bytes.old.items ++ joined parts.now) }
+    ensures ok { OnOk result (bytes.new.items ≡ bytes.old.items ++ semicolon_list parts.now) }
     ensures refused { OnErr result (Refused A) }
 {
     match parts.split_first() {

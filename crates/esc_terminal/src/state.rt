@@ -14,7 +14,7 @@ ghost use Rattle.esc_terminal.specs.Requests.{request_list};
 ghost use Rattle.esc_terminal.specs.Steps.{choice_steps, lead_known, lead_steps, mode_steps, selected_steps};
 ghost use Rattle.esc_terminal.specs.Streams.{title_by_command};
 ghost use Rattle.typed_functions.specs.Functions.{value_of as function_value};
-ghost use Rattle.typed_functions.specs.Selections.{left, modes_left};
+ghost use Rattle.typed_functions.specs.Selections.{renditions_left, modes_left};
 ghost use Rattle.fallible_alloc.specs.Refusals.{Refused};
 
 use crate::link_parts::link_in_parts;
@@ -192,7 +192,7 @@ impl<A: Allocator> State<A> {
     // How the characters look that come, after renditions, one after another.
     fn look_after(&self, renditions: Renditions<'_>) -> Look
         ensures { result ≡ look_by_all (known_look self.now.screen.cursor.look (known_in self.now))
-            (left renditions.entry) }
+            (renditions_left renditions.entry) }
     {
         let mut look = self.styles.look_at(self.screen.cursor().look);
         look.select_all(renditions);

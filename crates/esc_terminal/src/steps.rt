@@ -1,7 +1,7 @@
 //! The steps of a screen for a value of a stream.
 ghost use Rattle.std.specs.Prelude.{◌≡◌};
 ghost use Rattle.typed_functions.specs.Functions.{value_of as function_value};
-ghost use Rattle.esc_terminal.specs.Steps.{after_step, before_step, charset_step, choice_step, chosen, clear_step, control_step, cursor_step, device_step, display_step, edit_step, escape_step, is_drawing, line_step, margins_step, mode_step, one_step, print_step, private_step, standard_step, tab_step};
+ghost use Rattle.esc_terminal.specs.Steps.{after_step, before_step, charset_step, choice_step, setting_by, clear_step, control_step, cursor_step, device_step, display_step, edit_step, escape_step, is_drawing, line_step, margins_step, mode_step, one_step, print_step, private_step, standard_step, tab_step};
 
 use crate::counts::{count, place};
 use esc_actions::ControlCode;
@@ -332,7 +332,7 @@ pub fn one_step(from: Place, function: Function<'_>) -> Option<Step>
 
 // One setting where a mode is set, and another where it is reset.
 fn chosen(on: bool, set: Setting, reset: Setting) -> Setting
-    ensures { result ≡ chosen on set reset }
+    ensures { result ≡ setting_by on set reset }
 {
     if on { set } else { reset }
 }

@@ -6,7 +6,7 @@ use Rattle.std.proofs.Math.Path.{fun_ext}
 use Rattle.std.specs.Cmp.Lexicographic.{pointwise}
 use Rattle.std.specs.List.{list_all}
 use Rattle.esc_values.specs.Cuts.{Pairs, last_value}
-use Rattle.esc_values.specs.Fields.{Values, values_of, Entry, with_value, written, is_bare, cut_before, ascends, with_entry, in_order, Kinds, Field}
+use Rattle.esc_values.specs.Fields.{Values, values_of, Entry, with_value, present_pairs, is_bare, cut_before, ascends, with_entry, in_order, Kinds, Field}
 use Rattle.esc_values.specs.Fields.{entries, FitAll, Makes, read_with}
 use Rattle.esc_values.proofs.Where.{Where, where_then}
 
@@ -38,13 +38,13 @@ find_step k n (Some v) found r es true e h =
 find_step k n (Some v) found r es false e h = rw (e, last_value) (h found)
 
 values_found : (k : List ℕ) (found : Option (List ℕ)) (es : List Entry)
-    → last_value k found (written es) ≡ later (find k es) found
+    → last_value k found (present_pairs es) ≡ later (find k es) found
 values_found k found [] = refl
 values_found k found (e ∷ es) =
-    find_step k e.0 e.1 found (find k es) (written es) (pointwise nat_eq e.0 k) refl (λ f.
+    find_step k e.0 e.1 found (find k es) (present_pairs es) (pointwise nat_eq e.0 k) refl (λ f.
     values_found k f es)
 
-pub written_values : (es : List Entry) → values_of (written es) ≡ (λ k. find k es)
+pub written_values : (es : List Entry) → values_of (present_pairs es) ≡ (λ k. find k es)
 written_values es = fun_ext (λ k. values_found k None es ∙ later_none (find k es))
 
 -- keys, one of which is written, are not bare
@@ -54,12 +54,12 @@ bare_with n None es h = h
 bare_with n (Some v) es h = refl
 
 pub with_some : (n v : List ℕ) (es : List Entry)
-    → is_bare (written (with_entry (n, Some v) es)) ≡ false
+    → is_bare (present_pairs (with_entry (n, Some v) es)) ≡ false
 with_some n v [] = refl
 with_some n v (d ∷ ds) =
     elim (cases_Bool (cut_before n d.0)) [
       | inl held ↦ rw held refl
-      | inr failed ↦ rw failed (bare_with d.0 d.1 (written (with_entry (n, Some v) ds))
+      | inr failed ↦ rw failed (bare_with d.0 d.1 (present_pairs (with_entry (n, Some v) ds))
           (with_some n v ds))
     ]
 
@@ -76,11 +76,11 @@ before_with n m (Some v) es h k = rw (h, k) refl
 
 before_written : (n : List ℕ) (es : List Entry)
     → list_all (λ (d : Entry). cut_before n d.0) es ≡ true
-    → list_all (λ (d : List ℕ × List ℕ). cut_before n d.0) (written es) ≡ true
+    → list_all (λ (d : List ℕ × List ℕ). cut_before n d.0) (present_pairs es) ≡ true
 before_written n [] h = refl
 before_written n (e ∷ es) h =
     let q = and_parts (cut_before n e.0) (list_all (λ (d : Entry). cut_before n d.0) es) h in
-    before_with n e.0 e.1 (written es) q.0 (before_written n es q.1)
+    before_with n e.0 e.1 (present_pairs es) q.0 (before_written n es q.1)
 
 ascends_with : (n : List ℕ) (v : Option (List ℕ)) (es : Pairs)
     → list_all (λ (d : List ℕ × List ℕ). cut_before n d.0) es ≡ true → ascends es ≡ true
@@ -88,11 +88,12 @@ ascends_with : (n : List ℕ) (v : Option (List ℕ)) (es : Pairs)
 ascends_with n None es h k = k
 ascends_with n (Some v) es h k = rw (h, k) refl
 
-pub written_ascends : (es : List Entry) → entries_ascend es ≡ true → ascends (written es) ≡ true
+pub written_ascends : (es : List Entry) → entries_ascend es ≡ true → ascends (present_pairs es)
+    ≡ true
 written_ascends [] h = refl
 written_ascends (e ∷ es) h =
     let q = and_parts (list_all (λ (d : Entry). cut_before e.0 d.0) es) (entries_ascend es) h in
-    ascends_with e.0 e.1 (written es) (before_written e.0 es q.0) (written_ascends es q.1)
+    ascends_with e.0 e.1 (present_pairs es) (before_written e.0 es q.0) (written_ascends es q.1)
 
 -- entries put in order pass a test that they pass
 with_passes : (test : Entry → Bool) (e : Entry) (es : List Entry) → test e ≡ true

@@ -8,7 +8,7 @@ use Rattle.std.proofs.lemmas.Bool.{eqb-false, ne_eqb, not-true, and_parts}
 use Rattle.std.proofs.lemmas.Str.{encodes-append}
 use Rattle.std.specs.Str.{encode_utf8_all}
 use Rattle.std.specs.Char.{encode_utf8}
-use Rattle.esc_values.specs.Clear.{is_clear, is_part_char, IsClearText, IsClearPart, AreClearParts, AreTextParts, parts_of, joined}
+use Rattle.esc_values.specs.Clear.{is_clear, is_part_char, IsClearText, IsClearPart, AreClearParts, AreTextParts, parts_of, semicolon_list}
 use Rattle.esc_values.proofs.Cutting.{Free, free_append, encode_free, split_free, AreStretchs, SplitsAt, splits}
 
 abbrev semi : ℕ → Bool
@@ -26,15 +26,15 @@ stretchs_clear [] h = tt
 stretchs_clear (p ∷ ps) h = (h.0.0, stretchs_clear ps h.1)
 
 -- joining
-joined_is : (xs : List (List ℕ)) → joined xs ≡ join_with_byte 0x3b xs
+joined_is : (xs : List (List ℕ)) → semicolon_list xs ≡ join_with_byte 0x3b xs
 joined_is [] = refl
 joined_is (x ∷ []) = append-nil x
 joined_is (x ∷ y ∷ xs) = ap (λ t. x ++ 0x3b ∷ t) (joined_is (y ∷ xs))
 
-pub joined_split : (t : List ℕ) → joined (slice_split semi t) ≡ t
+pub joined_split : (t : List ℕ) → semicolon_list (slice_split semi t) ≡ t
 joined_split t = joined_is (slice_split semi t) ∙ join_with_byte-slice_split 0x3b t
 
-pub joined_parts : (t : List ℕ) → joined (parts_of t) ≡ t
+pub joined_parts : (t : List ℕ) → semicolon_list (parts_of t) ≡ t
 joined_parts [] = refl
 joined_parts (b ∷ t) = joined_split (b ∷ t)
 
@@ -48,7 +48,7 @@ text_parts [] h = (tt, λ e. cc)
 text_parts (b ∷ t) h = (
   all_clear (slice_split semi (b ∷ t)) (b ∷ t) (split_clear (b ∷ t) h) refl,
   λ e.
-      let k : b ∷ t ≡ [] = sym (joined_split (b ∷ t)) ∙ ap joined e in cc,
+      let k : b ∷ t ≡ [] = sym (joined_split (b ∷ t)) ∙ ap semicolon_list e in cc,
 )
 
 -- a clear part is a clear text without `;`
@@ -95,27 +95,28 @@ after_clear (q ∷ ps) h =
     clear_append (0x3b ∷ []) (q ++ flat_map (λ q. 0x3b ∷ q) ps) semi_clear
     (clear_append q (flat_map (λ q. 0x3b ∷ q) ps) (part_clear q h.0) (after_clear ps h.1))
 
-pub joined_clear : (ps : List (List ℕ)) → AreClearParts ps → IsClearText (joined ps)
+pub joined_clear : (ps : List (List ℕ)) → AreClearParts ps → IsClearText (semicolon_list ps)
 joined_clear [] h = ([], refl, refl)
 joined_clear (p ∷ ps) h =
     clear_append p (flat_map (λ q. 0x3b ∷ q) ps) (part_clear p h.0) (after_clear ps h.1)
 
 pub split_joined : (p : List ℕ) (ps : List (List ℕ)) → AreClearParts (p ∷ ps)
-    → slice_split semi (joined (p ∷ ps)) ≡ p ∷ ps
+    → slice_split semi (semicolon_list (p ∷ ps)) ≡ p ∷ ps
 split_joined p [] h =
     split_free 0x3b p [] [] [] (part_free p h.0) refl ∙ ap (λ t. t ∷ []) (append-nil p)
 split_joined p (q ∷ ps) h =
-    split_free 0x3b p (0x3b ∷ joined (q ∷ ps)) [] (slice_split semi (joined (q ∷ ps)))
+    split_free 0x3b p (0x3b ∷ semicolon_list (q ∷ ps)) []
+        (slice_split semi (semicolon_list (q ∷ ps)))
     (part_free p h.0) refl
-    ∙ ap (λ t. t ∷ slice_split semi (joined (q ∷ ps))) (append-nil p)
+    ∙ ap (λ t. t ∷ slice_split semi (semicolon_list (q ∷ ps))) (append-nil p)
     ∙ ap (λ ts. p ∷ ts) (split_joined q ps h.1)
 
-back : (ps : List (List ℕ)) → AreTextParts ps → parts_of (joined ps) ≡ ps
+back : (ps : List (List ℕ)) → AreTextParts ps → parts_of (semicolon_list ps) ≡ ps
 back [] h = refl
 back ([] ∷ []) h = absurd (h.1 refl)
 back ([] ∷ q ∷ ps) h = split_joined [] (q ∷ ps) h.0
 back ((b ∷ p) ∷ ps) h = split_joined (b ∷ p) ps h.0
 
-pub parts_text : (ps : List (List ℕ)) → AreTextParts ps → IsClearText (joined ps)
-    × (parts_of (joined ps) ≡ ps)
+pub parts_text : (ps : List (List ℕ)) → AreTextParts ps → IsClearText (semicolon_list ps)
+    × (parts_of (semicolon_list ps) ≡ ps)
 parts_text ps h = (joined_clear ps h.0, back ps h)

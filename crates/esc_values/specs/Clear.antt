@@ -41,9 +41,9 @@ abbrev pub separated_parts : List (List ℕ) → List ℕ
 separated_parts ps = flat_map (λ q. 0x3b ∷ q) ps
 
 -- the parts, with `;` between them
-abbrev pub joined : List (List ℕ) → List ℕ
-joined [] = []
-joined (p ∷ ps) = p ++ separated_parts ps
+abbrev pub semicolon_list : List (List ℕ) → List ℕ
+semicolon_list [] = []
+semicolon_list (p ∷ ps) = p ++ separated_parts ps
 
 -- clear parts, but not one empty part: the parts into which a clear text splits
 abbrev pub AreTextParts : List (List ℕ) → Type 0

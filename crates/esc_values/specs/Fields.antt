@@ -24,9 +24,9 @@ abbrev pub with_value : List ℕ → Option (List ℕ) → Pairs → Pairs
 with_value n None es = es
 with_value n (Some v) es = (n, v) ∷ es
 
-abbrev pub written : List Entry → Pairs
-written [] = []
-written (e ∷ es) = with_value e.0 e.1 (written es)
+abbrev pub present_pairs : List Entry → Pairs
+present_pairs [] = []
+present_pairs (e ∷ es) = with_value e.0 e.1 (present_pairs es)
 
 -- whether none is written
 abbrev pub is_bare : Pairs → Bool

@@ -1,6 +1,6 @@
 //! Laws of clear texts: how they split at `;` and join again.
 ghost use Rattle.std.specs.Prelude.{◌≡◌, ℕ, List};
-ghost use Rattle.esc_values.specs.Clear.{IsClearText, AreTextParts, parts_of, joined};
+ghost use Rattle.esc_values.specs.Clear.{IsClearText, AreTextParts, parts_of, semicolon_list};
 
 /// A clear text splits into clear parts, and not into one empty part.
 #[tactic(auto, using(crate::proofs::Split::text_parts))]
@@ -11,12 +11,12 @@ pub fn text_parts()
 /// Clear parts, but not one empty part, joined are a clear text that splits into them.
 #[tactic(auto, using(crate::proofs::Split::parts_text))]
 pub fn parts_text()
-    ensures { (ps : List (List ℕ)) → AreTextParts ps → IsClearText (joined ps)
-        × (parts_of (joined ps) ≡ ps) }
+    ensures { (ps : List (List ℕ)) → AreTextParts ps → IsClearText (semicolon_list ps)
+        × (parts_of (semicolon_list ps) ≡ ps) }
 {}
 
 /// The parts of a text, joined, are the text.
 #[tactic(auto, using(crate::proofs::Split::joined_parts))]
 pub fn joined_parts()
-    ensures { (t : List ℕ) → joined (parts_of t) ≡ t }
+    ensures { (t : List ℕ) → semicolon_list (parts_of t) ≡ t }
 {}

@@ -15,7 +15,7 @@ use Rattle.std.proofs.lemmas.List.Splits.{length-slice_split, slice_split-cons_n
 use Rattle.std.proofs.lemmas.List.Sums.{prefix_len-le-length}
 use Rattle.std.proofs.lemmas.Str.{IsCharBoundary-after_ascii, IsCharBoundary-before_ascii, IsUtf8-drop, IsUtf8-past_char, IsUtf8-take}
 use Rattle.std.proofs.lemmas.Str.{encode_ascii, is_utf8-from_IsUtf8}
-use Rattle.esc_values.specs.Clear.{framed_text, joined, parts_of}
+use Rattle.esc_values.specs.Clear.{framed_text, semicolon_list, parts_of}
 use Rattle.esc_links.specs.Hyperlinks.{is_colon, link_to, params_of}
 use Rattle.esc_values.specs.Scalars.{utf8_of}
 use Rattle.esc_links.specs.declared.hyperlink.Hyperlink.{Hyperlink}
@@ -81,7 +81,7 @@ titled : (ps : List (List ℕ)) (t : List ℕ) → slice_split semi t ≡ ps →
     → title_of ps ≡ Some t
 titled [] t e u = absurd (omega (arith, ap length e, length-slice_split semi t))
 titled (p ∷ ps) t e u =
-    let whole : joined (p ∷ ps) ≡ t = ap joined (sym e) ∙ joined_split t in
+    let whole : semicolon_list (p ∷ ps) ≡ t = ap semicolon_list (sym e) ∙ joined_split t in
     ap utf8_of whole ∙ rw (is_utf8-from_IsUtf8 t u) refl
 
 -- the text after ASCII
@@ -223,7 +223,8 @@ utf8_after v u h =
 
 -- a text of two parts
 two_joined : (t v u : List ℕ) → slice_split semi t ≡ v ∷ u ∷ [] → t ≡ v ++ 0x3b ∷ u
-two_joined t v u e = sym (joined_split t) ∙ ap joined e ∙ ap (λ x. v ++ 0x3b ∷ x) (append-nil u)
+two_joined t v u e =
+    sym (joined_split t) ∙ ap semicolon_list e ∙ ap (λ x. v ++ 0x3b ∷ x) (append-nil u)
 
 id_parts : (t v u : List ℕ) → slice_split semi t ≡ v ∷ u ∷ []
     → parts_of (codes "8;id=" ++ t) ≡ codes "8" ∷ (codes "id=" ++ v) ∷ u ∷ []

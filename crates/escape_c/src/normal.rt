@@ -7,7 +7,7 @@ ghost use Rattle.esc_actions.specs.Writable.{AreWritable};
 ghost use Rattle.fallible_alloc.specs.Refusals.{Refused};
 ghost use Rattle.esc_calls.specs.InChunks.{Begins, Breaks, IsEnded, KeepsNone, Stays, Takes, text_of};
 ghost use Rattle.esc_calls.specs.Kept.{normaliser_in};
-ghost use Rattle.esc_calls.specs.NormalChunks.{FinishesNormal, NormaliserHasConsumed, formed};
+ghost use Rattle.esc_calls.specs.NormalChunks.{FinishesNormal, NormaliserHasConsumed, normal_text};
 
 use esc_calls::in_chunks::InChunks;
 use esc_calls::{DONE, NO_MEMORY, NOT_BEGUN, is_normal, normal, normal_chunks};
@@ -76,9 +76,10 @@ pub extern "C" fn escape_stream_normal_feed(
 ) -> u32
     ensures taken { (limit : ℕ) (s : List ℕ) → NormaliserHasConsumed limit s normaliser.old
         → result ≡ DONE
-        → Takes (NormaliserHasConsumed limit) (formed limit) s bytes.now normaliser.new }
+        → Takes (NormaliserHasConsumed limit) (normal_text limit) s bytes.now normaliser.new }
     ensures memory { (limit : ℕ) (s : List ℕ) → NormaliserHasConsumed limit s normaliser.old
-        → result ≢ DONE → (result ≡ NO_MEMORY) × Breaks (formed limit) s bytes.now normaliser.new
+        → result ≢ DONE → (result ≡ NO_MEMORY)
+        × Breaks (normal_text limit) s bytes.now normaliser.new
         × Refused Global }
     ensures refused { result ≢ DONE → (result ≢ NO_MEMORY → result ≡ NOT_BEGUN)
         × IsEnded normaliser.new }

@@ -24,7 +24,7 @@ use Rattle.esc_sanitize.specs.declared.options.FilterOptions.{FilterOptions}
 use Rattle.esc_segments.specs.Items.{IsItem}
 use Rattle.escfilter.specs.Choices.{admits_choice}
 use Rattle.escfilter.specs.Names.{Title, bare, has_key, kind_title, title_of, value_title}
-use Rattle.escfilter.specs.Rows.{AreCalled, AreRowsOf, IsCalled, IsJudge, IsOf, IsReport, Names, are_one_name, first_out, is_respelled, is_told, judge_writes, kept, kept_after, kept_name, kept_one, keyed, title_by, title_or, told, writes}
+use Rattle.escfilter.specs.Rows.{AreCalled, AreRowsOf, IsCalled, IsJudge, IsOf, IsReport, Names, are_one_name, first_out, is_respelled, is_told, judge_writes, entries_by_row, kept_after, kept_name, kept_one, keys_count, title_by, title_or, entries_with_row, writes}
 use Rattle.escfilter.specs.declared.name.Name.{Name}
 use Rattle.escfilter.specs.declared.named_groups.Choice.{Choice}
 use Rattle.escfilter.specs.declared.options.Options.{Options}
@@ -32,12 +32,13 @@ use Rattle.escfilter.specs.declared.options.Options.{Options}
 -- ---- names
 
 pub keyed_step : (rows : List (Row Name)) (i : ℕ) (r : Row Name) → i < length rows
-    → r ≡ get_or rows i r → keyed (drop i rows)
-    ≡ (if has_key (title_of r.name) then 1 + keyed (drop (suc i) rows)
-    else keyed (drop (suc i) rows))
+    → r ≡ get_or rows i r → keys_count (drop i rows)
+    ≡ (if has_key (title_of r.name) then 1 + keys_count (drop (suc i) rows)
+    else keys_count (drop (suc i) rows))
 keyed_step [] i r few here = absurd (omega (arith, few))
 keyed_step (k ∷ rows) zero r few here =
-    ap (λ (x : Row Name). if has_key (title_of x.name) then 1 + keyed rows else keyed rows)
+    ap (λ (x : Row Name).
+        if has_key (title_of x.name) then 1 + keys_count rows else keys_count rows)
     (sym here)
 keyed_step (k ∷ rows) (suc i) r few here = keyed_step rows i r (omega (arith, few)) here
 
@@ -134,13 +135,13 @@ keyed_names : List Name → ℕ
 keyed_names [] = 0
 keyed_names (n ∷ ns) = one_key n + keyed_names ns
 
-keyed_are : (rows : List (Row Name)) → keyed rows ≡ keyed_names (names_in rows)
+keyed_are : (rows : List (Row Name)) → keys_count rows ≡ keyed_names (names_in rows)
 unfolding keyed_names one_key
 keyed_are [] = refl
 keyed_are (r ∷ rows) = by (has_key (title_of r.name)) (keyed_are rows)
   where
-    by : (t : Bool) → keyed rows ≡ keyed_names (names_in rows)
-        → (if t then 1 + keyed rows else keyed rows)
+    by : (t : Bool) → keys_count rows ≡ keyed_names (names_in rows)
+        → (if t then 1 + keys_count rows else keys_count rows)
         ≡ (if t then 1 else 0) + keyed_names (names_in rows)
     by true h = ap (λ n. 1 + n) h
     by false h = omega (arith, h)
@@ -150,28 +151,29 @@ unfolding keyed_names
 keyed_end [] n = refl
 keyed_end (m ∷ ns) n = omega (arith, keyed_end ns n)
 
-key_room : (rows : List (Row Name)) (f : Fate) (n : Name) → keyed rows ≤ 64
+key_room : (rows : List (Row Name)) (f : Fate) (n : Name) → keys_count rows ≤ 64
     → has_row are_one_name rows f (kept_name rows f n) ≡ false
-    → one_key (kept_name rows f n) + keyed rows ≤ 64
+    → one_key (kept_name rows f n) + keys_count rows ≤ 64
 unfolding one_key
 key_room rows f n few none =
-    by (has_key (title_of n)) (has_row are_one_name rows f n) (nat_le 64 (keyed rows)) refl refl
+    by (has_key (title_of n)) (has_row are_one_name rows f n)
+        (nat_le 64 (keys_count rows)) refl refl
     refl none
   where
     by : (a b c : Bool) → has_key (title_of n) ≡ a → has_row are_one_name rows f n ≡ b
-        → nat_le 64 (keyed rows) ≡ c
+        → nat_le 64 (keys_count rows) ≡ c
         → has_row are_one_name rows f (if a && (not b && c) then bare n else n) ≡ false
         → (if has_key (title_of (if a && (not b && c) then bare n else n)) then 1 else 0)
-        + keyed rows ≤ 64
+        + keys_count rows ≤ 64
     by true true c ha hb hc h = let z : true ≡ false = sym hb ∙ h in absurd cc
     by true false true ha hb hc h = omega (arith, few)
     by true false false ha hb hc h =
-        let k : keyed rows < 64 = grind (arith, nat_tests, hc) in
+        let k : keys_count rows < 64 = grind (arith, nat_tests, hc) in
         rw ha (omega (arith, k))
     by false b c ha hb hc h = rw ha (omega (arith, few))
 
-few_more : (rows others : List (Row Name)) (f : Fate) (n : Name) → keyed rows ≤ 64
-    → BeginsOne are_one_name rows others f (kept_name rows f n) → keyed others ≤ 64
+few_more : (rows others : List (Row Name)) (f : Fate) (n : Name) → keys_count rows ≤ 64
+    → BeginsOne are_one_name rows others f (kept_name rows f n) → keys_count others ≤ 64
 few_more rows others f n few (inl h) =
     omega (arith, few, keyed_are others, keyed_are rows, ap keyed_names h)
 few_more rows others f n few (inr h) =
@@ -187,12 +189,12 @@ few_more rows others f n few (inr h) =
 -- ---- reports
 
 told_more : (es : List Entry) (e : Entry) → is_respelled e.fate ≡ false
-    → told (es ++ e ∷ []) ≡ told es ++ e ∷ []
+    → entries_with_row (es ++ e ∷ []) ≡ entries_with_row es ++ e ∷ []
 told_more es e h = filter-append is_told es (e ∷ []) ∙ rw h refl
 
 not_told : (es : List Entry) (e : Entry) → is_respelled e.fate ≡ true
-    → told (es ++ e ∷ []) ≡ told es
-not_told es e h = filter-append is_told es (e ∷ []) ∙ rw h (append-nil (told es))
+    → entries_with_row (es ++ e ∷ []) ≡ entries_with_row es
+not_told es e h = filter-append is_told es (e ∷ []) ∙ rw h (append-nil (entries_with_row es))
 
 pub named_more : (o : FilterOptions Choice) (t u : Table Name Global) (es : List Entry)
     (n : Name) (e : Entry) → Names o t es → IsCalled o (under n e)
@@ -205,12 +207,14 @@ named_more o t u es n e h c add one = record {
   names = h.names ++ under n e ∷ [];
   called = called_more o h.names es (under n e) h.called c;
   has =
-      let k : under (kept_name t.rows.items e.fate n) e ≡ kept_one (kept h.names) (under n e) =
+      let k : under (kept_name t.rows.items e.fate n) e
+          ≡ kept_one (entries_by_row h.names) (under n e) =
       ap (λ rows. under (kept_name rows e.fate n) e) h.has.rows in
       let P : List (Named Name) → Type 0 = λ l. HasRowsOf are_one_name u l in
       subst P (sym (kept_more [] h.names (under n e)))
-      (subst (λ x. HasRowsOf are_one_name u (kept h.names ++ x ∷ [])) k (add (kept h.names) h.has));
-  few = few_more t.rows.items u.rows.items e.fate n h.few (one (kept h.names) h.has);
+      (subst (λ x. HasRowsOf are_one_name u (entries_by_row h.names ++ x ∷ [])) k
+          (add (entries_by_row h.names) h.has));
+  few = few_more t.rows.items u.rows.items e.fate n h.few (one (entries_by_row h.names) h.has);
 }
 
 pub noted_so : (o : Options) (j : Judging Choice Global) (t u : Table Name Global)
@@ -222,11 +226,12 @@ pub noted_so : (o : Options) (j : Judging Choice Global) (t u : Table Name Globa
     → ((ns : List (Named Name)) → HasRowsOf are_one_name t ns
     → BeginsOne are_one_name t.rows.items u.rows.items e.fate (kept_name t.rows.items e.fate n))
     → IsReport o j u (es ++ e ∷ [])
-noted_so o j t u es n e h told c all add one = record {
+noted_so o j t u es n e h entries_with_row c all add one = record {
   judge = h.judge;
-  all = λ asked. rw (told_more es e told) (all _ (h.all asked));
+  all = λ asked. rw (told_more es e entries_with_row) (all _ (h.all asked));
   named = λ asked.
-      rw (told_more es e told) (named_more o.filter t u _ n e (h.named asked) c add one);
+      rw (told_more es e entries_with_row)
+          (named_more o.filter t u _ n e (h.named asked) c add one);
 }
 
 pub noted_ok : {X E : Type 0} (r : Result X E) (o : Options) (j : Judging Choice Global)
@@ -239,12 +244,12 @@ pub noted_ok : {X E : Type 0} (r : Result X E) (o : Options) (j : Judging Choice
     → ((ns : List (Named Name)) → HasRowsOf are_one_name t ns
     → OnOk r (BeginsOne are_one_name t.rows.items u.rows.items e.fate m))
     → OnOk r (IsReport o j u (es ++ e ∷ []))
-noted_ok (Ok x) o j t u es n m e h told c is all add one =
-    noted_so o j t u es n e h told c all
+noted_ok (Ok x) o j t u es n m e h entries_with_row c is all add one =
+    noted_so o j t u es n e h entries_with_row c all
     (λ ns has. subst (λ k. HasRowsOf are_one_name u (ns ++ under k e ∷ [])) is (add ns has))
     (λ ns has.
     subst (λ k. BeginsOne are_one_name t.rows.items u.rows.items e.fate k) is (one ns has))
-noted_ok (Err x) o j t u es n m e h told c is all add one = tt
+noted_ok (Err x) o j t u es n m e h entries_with_row c is all add one = tt
 
 pub not_asked : (o : Options) (j : Judging Choice Global) (t u : Table Name Global)
     (es ds : List Entry) → IsReport o j t es → is_some o.report ≡ false → IsReport o j u ds

@@ -6,7 +6,7 @@ use Rattle.control_functions.specs.Functions.{function_of_csi}
 use Rattle.esc_account.specs.Brief.{brief}
 use Rattle.esc_account.specs.Entries.{Entry}
 use Rattle.esc_account.specs.Judges.{GoesBy}
-use Rattle.esc_account.specs.Rows.{HasRowsOf, Named, has_row, joined, rows_of, under}
+use Rattle.esc_account.specs.Rows.{HasRowsOf, Named, has_row, joined_entries, rows_of, under}
 use Rattle.esc_account.specs.Rules.{is_written}
 use Rattle.esc_account.specs.Tables.{HasAll}
 use Rattle.esc_account.specs.declared.fate.Fate.{Fate}
@@ -40,8 +40,8 @@ abbrev pub is_told : Entry → Bool
 is_told e = not (is_respelled e.fate)
 
 -- the entries that have a row
-abbrev pub told : List Entry → List Entry
-told es = filter is_told es
+abbrev pub entries_with_row : List Entry → List Entry
+entries_with_row es = filter is_told es
 
 -- ---- what they are called
 
@@ -123,29 +123,29 @@ abbrev pub are_one_name : Name → Name → Bool
 are_one_name = name_test.ghosts.eq
 
 -- how many rows have a name with a key
-abbrev pub keyed : List (Row Name) → ℕ
-keyed [] = 0
-keyed (r ∷ rows) = if has_key (title_of r.name) then 1 + keyed rows else keyed rows
+abbrev pub keys_count : List (Row Name) → ℕ
+keys_count [] = 0
+keys_count (r ∷ rows) = if has_key (title_of r.name) then 1 + keys_count rows else keys_count rows
 
 -- The name of the row of this fate and name, where there are these rows: without its key, where no
 -- row has them and 64 have a key.
 abbrev pub kept_name : List (Row Name) → Fate → Name → Name
 kept_name rows f n =
-    if has_key (title_of n) && (not (has_row are_one_name rows f n) && nat_le 64 (keyed rows))
+    if has_key (title_of n) && (not (has_row are_one_name rows f n) && nat_le 64 (keys_count rows))
     then bare n else n
 
 -- the entry under the name of its row, after these
 abbrev pub kept_one : List (Named Name) → Named Name → Named Name
 kept_one done n =
-    under (kept_name (rows_of are_one_name (joined done)) n.entry.fate n.name) n.entry
+    under (kept_name (rows_of are_one_name (joined_entries done)) n.entry.fate n.name) n.entry
 
 abbrev pub kept_after : List (Named Name) → List (Named Name) → List (Named Name)
 kept_after done [] = []
 kept_after done (n ∷ ns) = kept_one done n ∷ kept_after (done ++ kept_one done n ∷ []) ns
 
 -- these entries, each under the name of its row
-abbrev pub kept : List (Named Name) → List (Named Name)
-kept ns = kept_after [] ns
+abbrev pub entries_by_row : List (Named Name) → List (Named Name)
+entries_by_row ns = kept_after [] ns
 
 -- ---- reports
 
@@ -154,15 +154,15 @@ pub record AreRowsOf (o : FilterOptions Choice) (rows : List (Row Name)) (es : L
   where
     pub names : List (Named Name)
     pub called : AreCalled o names es
-    pub is : rows ≡ rows_of are_one_name (joined (kept names))
+    pub is : rows ≡ rows_of are_one_name (joined_entries (entries_by_row names))
 
 -- the same of a table, which goes on
 pub record Names (o : FilterOptions Choice) (t : Table Name Global) (es : List Entry) : Type 0
   where
     pub names : List (Named Name)
     pub called : AreCalled o names es
-    pub has : HasRowsOf are_one_name t (kept names)
-    pub few : keyed t.rows.items ≤ 64
+    pub has : HasRowsOf are_one_name t (entries_by_row names)
+    pub few : keys_count t.rows.items ≤ 64
 
 -- the judge goes by these options
 abbrev pub IsJudge : FilterOptions Choice → Judging Choice Global → Type 0
@@ -173,8 +173,8 @@ IsJudge o j = GoesBy j.policy o.by_lines o.guard o.limit o.policy
 pub record IsReport (o : Options) (j : Judging Choice Global) (t : Table Name Global)
     (es : List Entry) : Type 0 where
   pub judge : IsJudge o.filter j
-  pub all : is_some o.report ≡ true → HasAll t (told es)
-  pub named : is_some o.report ≡ true → Names o.filter t (told es)
+  pub all : is_some o.report ≡ true → HasAll t (entries_with_row es)
+  pub named : is_some o.report ≡ true → Names o.filter t (entries_with_row es)
 
 abbrev pub HasRows : Rows → List Entry → Type 0
 HasRows r es = IsReport r.options r.judge r.table es

@@ -10,7 +10,7 @@ ghost use Rattle.esc_actions.specs.Values.{value_of};
 ghost use Rattle.esc_frame.specs.Segments.{AreSegments, Segment as Shape, is_finished, joined_bytes};
 ghost use Rattle.esc_segments.specs.Items.{IsItem};
 ghost use Rattle.escfilter.specs.Names.{kind_title, title_of};
-ghost use Rattle.escfilter.specs.Rows.{AreRowsOf, HasRows, IsCalled, IsJudge, are_one_name, first_out, is_meant, is_respelled, kept_name, keyed, title_by, title_or, told, writes};
+ghost use Rattle.escfilter.specs.Rows.{AreRowsOf, HasRows, IsCalled, IsJudge, are_one_name, first_out, is_meant, is_respelled, kept_name, keys_count, title_by, title_or, entries_with_row, writes};
 ghost use Rattle.fallible_alloc.specs.Refusals.{Refused};
 
 use crate::at_once::name_at_once;
@@ -73,12 +73,12 @@ impl<'a> Rows<'a> {
     /// the names that the segments tell.
     pub fn rows(&self) -> &[Row<Name>]
         ensures all { (es : List Told) → HasRows self.now es
-            → is_some self.now.options.report ≡ true → HasAllRows result.now (told es) }
+            → is_some self.now.options.report ≡ true → HasAllRows result.now (entries_with_row es) }
         ensures names { (es : List Told) → HasRows self.now es
             → is_some self.now.options.report ≡ true
-            → AreRowsOf self.now.options.filter result.now (told es) }
+            → AreRowsOf self.now.options.filter result.now (entries_with_row es) }
         ensures few { (es : List Told) → HasRows self.now es
-            → is_some self.now.options.report ≡ true → keyed result.now ≤ 64 }
+            → is_some self.now.options.report ≡ true → keys_count result.now ≤ 64 }
     {
         self.table.rows()
     }
@@ -261,14 +261,14 @@ fn kept_name(table: &Table<Name>, fate: Fate, name: Name) -> Name
 // Whether no row has this fate and name, and there are enough rows with keys.
 fn is_past(table: &Table<Name>, fate: Fate, name: Name) -> bool
     ensures { result ≡ (not (has_row are_one_name table.now.rows.items fate name)
-        && nat_le 64 (keyed table.now.rows.items)) }
+        && nat_le 64 (keys_count table.now.rows.items)) }
 {
     !table.has_row(fate, name) && KEYS <= keyed(table.rows())
 }
 
 // How many rows have a key.
 fn keyed(rows: &[Row<Name>]) -> usize
-    ensures { result ≡ keyed rows.now }
+    ensures { result ≡ keys_count rows.now }
 {
     let mut count: usize = 0;
     let mut at = rows.len();

@@ -6,7 +6,7 @@ use Rattle.std.proofs.lemmas.List.{length-append}
 use Rattle.esc_decode.specs.Decodings.{OnlyAdds}
 use Rattle.esc_normal.specs.declared.feeding.StreamFilter.{Ghosts as Feeder}
 use Rattle.memchr.specs.Find.{is_byte}
-use Rattle.eschtml.specs.Joined.{Joins, gone, held_after, joined, joined_after, next_held, pair, through_joined}
+use Rattle.eschtml.specs.Joined.{Joins, bytes_past, held_after, text_without_pairs, joined_after, next_held, pair, through_joined}
 
 -- ---- bytes, and then more
 
@@ -14,8 +14,8 @@ pub joined_append : (k : ℕ) (x y : List ℕ)
     → joined_after k (x ++ y) ≡ joined_after k x ++ joined_after (held_after k x) y
 joined_append k [] y = refl
 joined_append k (b ∷ x) y =
-    ap (λ t. gone k b ++ t) (joined_append (next_held k b) x y)
-    ∙ sym (append_assoc (gone k b) (joined_after (next_held k b) x)
+    ap (λ t. bytes_past k b ++ t) (joined_append (next_held k b) x y)
+    ∙ sym (append_assoc (bytes_past k b) (joined_after (next_held k b) x)
     (joined_after (held_after (next_held k b) x) y))
 
 pub held_append : (k : ℕ) (x y : List ℕ)
@@ -46,33 +46,34 @@ plain_stays (b ∷ s) (suc n) l h =
 
 module _ {F A : Type 0} (G : Feeder F A) (held : ℕ) (filter : F) (m c : List ℕ → List ℕ)
     (s : List ℕ) (h : Joins G held filter m c s) where
-  text_is : (x : List ℕ) → m x ≡ h.inner (joined x)
+  text_is : (x : List ℕ) → m x ≡ h.inner (text_without_pairs x)
   text_is x = ap (λ f. f x) h.goes_on
 
-  end_is : c s ≡ h.inner_end (joined s)
+  end_is : c s ≡ h.inner_end (text_without_pairs s)
   end_is = ap (λ f. f s) h.ended
 
-  added_is : (b : List ℕ) → joined (s ++ b) ≡ joined s ++ joined_after held b
-  added_is b = joined_append 0 s b ∙ ap (λ k. joined s ++ joined_after k b) (sym h.left)
+  added_is : (b : List ℕ) → text_without_pairs (s ++ b)
+      ≡ text_without_pairs s ++ joined_after held b
+  added_is b = joined_append 0 s b ∙ ap (λ k. text_without_pairs s ++ joined_after k b) (sym h.left)
 
   pub joins_longer : (b : List ℕ) → (t : List ℕ) × (m (s ++ b) ≡ m s ++ t)
   joins_longer b =
-      let (t, f) = h.adds.more (joined s) (joined_after held b) in
+      let (t, f) = h.adds.more (text_without_pairs s) (joined_after held b) in
       (t, text_is (s ++ b) ∙ ap h.inner (added_is b) ∙ f ∙ ap (λ y. y ++ t) (sym (text_is s)))
 
   pub joins_end_longer : (t : List ℕ) × (c s ≡ m s ++ t)
   joins_end_longer =
-      let (t, f) = h.adds.end (joined s) in
+      let (t, f) = h.adds.end (text_without_pairs s) in
       (t, end_is ∙ f ∙ ap (λ y. y ++ t) (sym (text_is s)))
 
   -- the filter was fed the bytes that some bytes add
   pub joins_fed : (b x t : List ℕ) (after : ℕ) (new : F) → x ≡ joined_after held b
-      → after ≡ held_after held b → G.gives new h.inner h.inner_end (joined s ++ x)
-      → h.inner (joined s ++ x) ≡ h.inner (joined s) ++ t
+      → after ≡ held_after held b → G.gives new h.inner h.inner_end (text_without_pairs s ++ x)
+      → h.inner (text_without_pairs s ++ x) ≡ h.inner (text_without_pairs s) ++ t
       → Joins G after new m c (s ++ b) × (m (s ++ b) ≡ m s ++ t)
   joins_fed b x t after new is has given added =
-      let whole : joined s ++ x ≡ joined (s ++ b) =
-      ap (λ y. joined s ++ y) is ∙ sym (added_is b) in (
+      let whole : text_without_pairs s ++ x ≡ text_without_pairs (s ++ b) =
+      ap (λ y. text_without_pairs s ++ y) is ∙ sym (added_is b) in (
         record {
           inner = h.inner;
           inner_end = h.inner_end;
@@ -87,7 +88,7 @@ module _ {F A : Type 0} (G : Feeder F A) (held : ℕ) (filter : F) (m c : List �
       )
 
   pub joins_ended : (t : List ℕ)
-      → h.inner_end (joined s) ≡ h.inner (joined s) ++ t → c s ≡ m s ++ t
+      → h.inner_end (text_without_pairs s) ≡ h.inner (text_without_pairs s) ++ t → c s ≡ m s ++ t
   joins_ended t added = end_is ∙ added ∙ ap (λ y. y ++ t) (sym (text_is s))
 
 -- ---- a filter that was fed nothing
@@ -111,9 +112,9 @@ pub joined_adds : (m c : List ℕ → List ℕ) → OnlyAdds m c
     → OnlyAdds (through_joined m) (through_joined c)
 joined_adds m c only = record {
   more = λ s b.
-      let (t, f) = only.more (joined s) (joined_after (held_after 0 s) b) in
+      let (t, f) = only.more (text_without_pairs s) (joined_after (held_after 0 s) b) in
       (t, ap m (joined_append 0 s b) ∙ f);
-  end = λ s. only.end (joined s);
+  end = λ s. only.end (text_without_pairs s);
 }
 
 -- ---- lengths: a text is no longer without its pairs
@@ -126,7 +127,7 @@ taken_most (suc k) (b ∷ l) = omega (arith, taken_most k l)
 is_seven : (k : ℕ) (b : ℕ) → ((k == 7) && (b == 0x32)) ≡ true → k ≡ 7
 is_seven k b e = let h = (and_parts (k == 7) (b == 0x32) e).0 in grind (arith, nat_tests)
 
-gone_most : (k b : ℕ) → length (gone k b) + next_held k b ≤ k + 1
+gone_most : (k b : ℕ) → length (bytes_past k b) + next_held k b ≤ k + 1
 gone_most k b =
     by (b == get_or pair k 0) (nat_le 8 k) ((k == 7) && (b == 0x32)) refl (b == 0x1b)
   where
@@ -147,7 +148,7 @@ pub joined_most : (k : ℕ) (t : List ℕ)
 joined_most k [] = omega arith
 joined_most k (b ∷ t) = omega (
   arith,
-  length-append (gone k b) (joined_after (next_held k b) t),
+  length-append (bytes_past k b) (joined_after (next_held k b) t),
   gone_most k b,
   joined_most (next_held k b) t,
 )

@@ -16,7 +16,7 @@ use Rattle.line_collapse.proofs.Streams.{final_after_longer, final_after_nil, le
 use Rattle.line_collapse.specs.Fed.{final_after, left_after}
 use Rattle.line_collapse.specs.Windows.{Size}
 use Rattle.esc_decode.specs.Decodings.{OnlyAdds}
-use Rattle.eschtml.specs.Piped.{composed}
+use Rattle.eschtml.specs.Piped.{composition}
 use Rattle.eschtml.specs.Written.{IsHtmlWith, html_with, page_of, screen_text, whole_screen}
 use Rattle.eschtml.specs.declared.options.Options.{Options}
 use Rattle.std.specs.declared.io.traits.Read.{Ghosts as Reader}
@@ -54,7 +54,7 @@ screen_longer A limit s =
 
 -- the same for the HTML of its final lines
 module _ (A : Type 0) (limit : ℕ) (y : Layout) (z : Size) where
-  pub no_html : composed (page_text A (Some limit) y) (final_after A z (screen_text A limit)) []
+  pub no_html : composition (page_text A (Some limit) y) (final_after A z (screen_text A limit)) []
       ≡ []
   no_html = ap (page_text A (Some limit) y)
       (final_after_nil A z (screen_text A limit) (no_screen A limit))
@@ -62,8 +62,8 @@ module _ (A : Type 0) (limit : ℕ) (y : Layout) (z : Size) where
 
   html_more : (s b : List ℕ)
       → (t : List ℕ)
-      × (composed (page_text A (Some limit) y) (final_after A z (screen_text A limit)) (s ++ b)
-      ≡ composed (page_text A (Some limit) y) (final_after A z (screen_text A limit)) s ++ t)
+      × (composition (page_text A (Some limit) y) (final_after A z (screen_text A limit)) (s ++ b)
+      ≡ composition (page_text A (Some limit) y) (final_after A z (screen_text A limit)) s ++ t)
   html_more s b =
       let m = screen_text A limit in
       let (a, e) = final_after_longer A z m (final_after A z m) s b refl (screen_more A limit s b)
@@ -75,8 +75,8 @@ module _ (A : Type 0) (limit : ℕ) (y : Layout) (z : Size) where
 
   html_longer : (s : List ℕ)
       → (t : List ℕ)
-      × (composed (page_of A limit y) (left_after A z (whole_screen A limit)) s
-      ≡ composed (page_text A (Some limit) y) (final_after A z (screen_text A limit)) s ++ t)
+      × (composition (page_of A limit y) (left_after A z (whole_screen A limit)) s
+      ≡ composition (page_text A (Some limit) y) (final_after A z (screen_text A limit)) s ++ t)
   html_longer s =
       let (a, e) = left_after_more A z (screen_text A limit) (whole_screen A limit)
       (screen_longer A limit) s in
@@ -89,9 +89,9 @@ module _ (A : Type 0) (limit : ℕ) (y : Layout) (z : Size) where
             ∙ append_assoc (page_text A (Some limit) y f) t u,
       )
 
-  pub html_adds : OnlyAdds (composed (page_text A (Some limit) y)
+  pub html_adds : OnlyAdds (composition (page_text A (Some limit) y)
       (final_after A z (screen_text A limit)))
-      (composed (page_of A limit y) (left_after A z (whole_screen A limit)))
+      (composition (page_of A limit y) (left_after A z (whole_screen A limit)))
   html_adds = record { more = html_more; end = html_longer }
 
 -- if these rows may be written again

@@ -30,7 +30,7 @@ use Rattle.caret_notation.specs.Visible.{begun_after, closing, opening, characte
 use Rattle.caret_notation.specs.declared.marking.Marking.TheVariants.{Reversed}
 use Rattle.unicode_visibility.specs.Characters.{digit_at, four_digits, is_shown, leading, number_text}
 use Rattle.eschtml.proofs.Joined.{held_append, joined_append, joined_most}
-use Rattle.eschtml.specs.Joined.{held_after, joined, joined_after}
+use Rattle.eschtml.specs.Joined.{held_after, text_without_pairs, joined_after}
 use Rattle.eschtml.specs.Lengths.{IsShort, IsShortBy, most_content, most_decoded, most_seen}
 use Rattle.eschtml.specs.Written.{IsHtml, IsPageBy, html_of, layout_by, seen_by, whole_in}
 use Rattle.eschtml.specs.Written.{is_kept as is_kept_value}
@@ -301,7 +301,7 @@ module _ {A : Type 0} (limit : ℕ) (admits : Value A → Bool) where
   last_most k (b ∷ r) = omega (arith, show_most k (b ∷ r) (omega arith))
 
   pub revealed_most : (s : List ℕ)
-      → length (joined (revealed_whole_as {A = A} Reversed false limit admits s))
+      → length (text_without_pairs (revealed_whole_as {A = A} Reversed false limit admits s))
       ≤ 7 * length s + 6
   revealed_most s =
       let r = rest_after false [] s in

@@ -16,7 +16,7 @@ use Rattle.caret_notation.specs.Revealed.{revealed_as, revealed_whole_as}
 use Rattle.caret_notation.specs.Through.{through, through_whole}
 use Rattle.caret_notation.specs.declared.marking.Marking.TheVariants as marking
 use Rattle.caret_notation.specs.declared.reveal.Rule.{Rule}
-use Rattle.eschtml.specs.Joined.{joined}
+use Rattle.eschtml.specs.Joined.{text_without_pairs}
 use Rattle.eschtml.specs.Written.{going_in, is_kept, whole_in}
 
 -- if nothing is shown
@@ -44,8 +44,8 @@ module _ {P A : Type 0} (V : Admitter P A) (rule : Rule P) (limit : ℕ) (moves 
       ∙ ap (λ a. revealed_whole_as marking.Reversed false limit a s) admits
 
   pub whole_shown : (b : Bool) → b ≡ true → (s : List ℕ)
-      → joined (whole_by {A = A} V rule s) ≡ whole_in A b limit moves s
-  whole_shown true e s = ap joined (whole_is s)
+      → text_without_pairs (whole_by {A = A} V rule s) ≡ whole_in A b limit moves s
+  whole_shown true e s = ap text_without_pairs (whole_is s)
   whole_shown false e s = absurd cc
 
   going_is : (s : List ℕ) → text_by {A = A} V rule s
@@ -57,8 +57,8 @@ module _ {P A : Type 0} (V : Admitter P A) (rule : Rule P) (limit : ℕ) (moves 
       ∙ ap (λ a. revealed_as marking.Reversed false limit a s) admits
 
   pub going_shown : (b : Bool) → b ≡ true → (s : List ℕ)
-      → joined (text_by {A = A} V rule s) ≡ going_in A b limit moves s
-  going_shown true e s = ap joined (going_is s)
+      → text_without_pairs (text_by {A = A} V rule s) ≡ going_in A b limit moves s
+  going_shown true e s = ap text_without_pairs (going_is s)
   going_shown false e s = absurd cc
 
 -- the text that is revealed of a stream, and then becomes HTML
@@ -94,7 +94,8 @@ nothing_decoded (CodePage p) = refl
 -- a filter that has no text for nothing has none for the revealed text of nothing
 no_sight_of : (m : List ℕ → List ℕ) (A : Type 0) (shows : Bool) (limit : ℕ) (moves : Bool)
     → m [] ≡ [] → m (going_in A shows limit moves []) ≡ []
-no_sight_of m A true limit moves h = ap (λ s. m (joined s)) (rest_none marking.Reversed limit) ∙ h
+no_sight_of m A true limit moves h =
+    ap (λ s. m (text_without_pairs s)) (rest_none marking.Reversed limit) ∙ h
 no_sight_of m A false limit moves h = h
 
 pub no_sight : (m : List ℕ → List ℕ) (A : Type 0) (e : Encoding) (shows : Bool) (limit : ℕ)

@@ -27,13 +27,13 @@ goes_on k b = if b == get_or pair k 0 then false
     else if (k == 7) && (b == 0x32) then false
     else not (b == 0x1b)
 
-abbrev pub gone : ℕ → ℕ → List ℕ
-gone k b = take (let_go k b) pair ++ (if goes_on k b then b ∷ [] else [])
+abbrev pub bytes_past : ℕ → ℕ → List ℕ
+bytes_past k b = take (let_go k b) pair ++ (if goes_on k b then b ∷ [] else [])
 
 -- the bytes that bytes add after those that are held back, and the number held back then
 abbrev pub joined_after : ℕ → List ℕ → List ℕ
 joined_after k [] = []
-joined_after k (b ∷ t) = gone k b ++ joined_after (next_held k b) t
+joined_after k (b ∷ t) = bytes_past k b ++ joined_after (next_held k b) t
 
 abbrev pub held_after : ℕ → List ℕ → ℕ
 held_after k [] = k
@@ -41,12 +41,12 @@ held_after k (b ∷ t) = held_after (next_held k b) t
 
 -- A text without these pairs. The bytes that are held back at its end are left out: they are the
 -- beginning of a sequence, or end reverse video, and show nothing.
-abbrev pub joined : List ℕ → List ℕ
-joined t = joined_after 0 t
+abbrev pub text_without_pairs : List ℕ → List ℕ
+text_without_pairs t = joined_after 0 t
 
 -- the text of a stream, if this is that of a joined one
 abbrev pub through_joined : (List ℕ → List ℕ) → List ℕ → List ℕ
-through_joined m s = m (joined s)
+through_joined m s = m (text_without_pairs s)
 
 -- The filter was fed this text without its pairs, but for so many bytes that are held back.
 pub record Joins {F A : Type 0} (G : Feeder F A) (held : ℕ) (filter : F)
@@ -54,7 +54,7 @@ pub record Joins {F A : Type 0} (G : Feeder F A) (held : ℕ) (filter : F)
   pub inner : List ℕ → List ℕ
   pub inner_end : List ℕ → List ℕ
   pub adds : OnlyAdds inner inner_end
-  pub given : G.gives filter inner inner_end (joined s)
+  pub given : G.gives filter inner inner_end (text_without_pairs s)
   pub left : held ≡ held_after 0 s
   pub goes_on : m ≡ through_joined inner
   pub ended : c ≡ through_joined inner_end

@@ -10,8 +10,8 @@ abbrev pub NewAdding : {F A : Type 0} → Feeder F A → F
 NewAdding V f C = (m c : List ℕ → List ℕ) → V.gives f m c [] → m [] ≡ [] → OnlyAdds m c → C m c
 
 -- one after the other
-abbrev pub composed : (List ℕ → List ℕ) → (List ℕ → List ℕ) → List ℕ → List ℕ
-composed g f s = g (f s)
+abbrev pub composition : (List ℕ → List ℕ) → (List ℕ → List ℕ) → List ℕ → List ℕ
+composition g f s = g (f s)
 
 -- The first was fed this stream, and the second its text: the text of both is the text of the
 -- second for the text of the first.
@@ -24,5 +24,5 @@ pub record Pipes {F G A : Type 0} (V : Feeder F A) (W : Feeder G A) (f : F) (g :
   pub adds : OnlyAdds of_second second_ended
   pub first : V.gives f of_first first_ended s
   pub second : W.gives g of_second second_ended (of_first s)
-  pub goes_on : m ≡ composed of_second of_first
-  pub ended : c ≡ composed second_ended first_ended
+  pub goes_on : m ≡ composition of_second of_first
+  pub ended : c ≡ composition second_ended first_ended

@@ -17,7 +17,7 @@ use Rattle.esc_style.specs.Looks.{look_after, plain_look}
 use Rattle.esc_style.specs.declared.look.Look.{Look}
 use Rattle.caret_notation.specs.Revealed.{revealed_as, revealed_whole_as}
 use Rattle.caret_notation.specs.declared.marking.Marking.TheVariants.{Reversed}
-use Rattle.eschtml.specs.Joined.{joined}
+use Rattle.eschtml.specs.Joined.{text_without_pairs}
 use Rattle.eschtml.specs.declared.options.Options.{Options}
 
 -- ---- pages
@@ -85,12 +85,14 @@ is_kept moves v = not (disguises v) && (is_shown v || (moves && admits Screen v)
 -- reverse video, which goes on over neighbours
 abbrev pub going_in : Type 0 → Bool → ℕ → Bool → List ℕ → List ℕ
 going_in A shows limit moves s =
-    if shows then joined (revealed_as {A = A} Reversed false limit (is_kept moves) s) else s
+    if shows then text_without_pairs
+        (revealed_as {A = A} Reversed false limit (is_kept moves) s) else s
 
 -- the same for one that has ended
 abbrev pub whole_in : Type 0 → Bool → ℕ → Bool → List ℕ → List ℕ
 whole_in A shows limit moves s =
-    if shows then joined (revealed_whole_as {A = A} Reversed false limit (is_kept moves) s) else s
+    if shows then text_without_pairs
+        (revealed_whole_as {A = A} Reversed false limit (is_kept moves) s) else s
 
 -- for the text that the stream becomes by its encoding
 abbrev pub seen_by : Type 0 → Options → Bool → Bool → List ℕ → List ℕ

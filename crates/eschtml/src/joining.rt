@@ -1,7 +1,7 @@
 //! Reverse video that ends and begins again at once, as one.
 ghost use Rattle.std.specs.Prelude.{[], ◌∷◌, ◌≡◌, ◌++◌, ◌<◌, ◌≤◌, ℕ, List, if◌then◌else◌, IfOk, OnErr, OnOk, get_or, length, take};
 ghost use Rattle.esc_decode.specs.Decodings.{OnlyAdds};
-ghost use Rattle.eschtml.specs.Joined.{Joins, goes_on, gone, held_after, joined_after, let_go, next_held, pair, through_joined};
+ghost use Rattle.eschtml.specs.Joined.{Joins, goes_on, bytes_past, held_after, joined_after, let_go, next_held, pair, through_joined};
 ghost use Rattle.fallible_alloc.specs.Refusals.{Refused};
 
 use esc_filter::StreamFilter;
@@ -179,7 +179,7 @@ fn run_of(bytes: &[u8]) -> usize
 
 // The same for one byte.
 fn push_one<A: Allocator>(text: &mut Vec<u8, A>, held: usize, byte: u8) -> Result<usize, AllocError>
-    ensures ok { IfOk result (λ k. (text.new.items ≡ text.old.items ++ gone held byte)
+    ensures ok { IfOk result (λ k. (text.new.items ≡ text.old.items ++ bytes_past held byte)
         × (k ≡ next_held held byte)) }
     ensures refused { OnErr result (Refused A) }
 {

@@ -1,7 +1,7 @@
 //! A filter of the text of another.
 ghost use Rattle.std.specs.Prelude.{ℕ, ◌≡◌, List, [], string_bytes};
 ghost use Rattle.esc_decode.specs.Decodings.{OnlyAdds};
-ghost use Rattle.eschtml.specs.Piped.{Pipes, composed};
+ghost use Rattle.eschtml.specs.Piped.{Pipes, composition};
 
 use esc_filter::StreamFilter;
 use std::alloc::{AllocError, Allocator, Global};
@@ -22,8 +22,8 @@ impl<F: StreamFilter<A>, G: StreamFilter<A>, A: Allocator> Piped<F, G, A> {
         ensures filters { (result.first ≡ first) × (result.second ≡ second) }
         ensures begins { (m c n d : List ℕ → List ℕ) → F.gives first m c [] → m [] ≡ []
             → G.gives second n d [] → OnlyAdds n d
-            → Pipes F.StreamFilter G.StreamFilter result.first result.second (composed n m)
-            (composed d c) [] }
+            → Pipes F.StreamFilter G.StreamFilter result.first result.second (composition n m)
+            (composition d c) [] }
     {
         Piped {
             first,

@@ -23,7 +23,7 @@ use Rattle.flat_values.specs.Fields.{Table, named_values, table_values}
 use Rattle.flat_values.specs.FoundCommands.{command_in, form_at}
 use Rattle.flat_values.specs.FoundItems.{nothing}
 use Rattle.flat_values.specs.FoundPrompts.{click_in, click_of, prompt_kind_of, scale_in, text_in}
-use Rattle.flat_values.specs.Found.{Reading, held_form as held_reading, kept, past}
+use Rattle.flat_values.specs.Found.{Reading, held_form as held_reading, value_if_kept, past}
 use Rattle.flat_values.specs.Held.{AreWithin, Bounds, Has, IsHeld, iterm_parts, parts_of, prompt_parts, scale_parts, text_parts, types}
 use Rattle.flat_values.specs.Kinds.{iterm_kind, kind_number, kind_of, prompt_kind as kind_of_prompt}
 use Rattle.flat_values.specs.Prompts.{aid_fields, click_fields, click_number, kind_number as prompt_number, prompt_fields}
@@ -192,7 +192,8 @@ module _ {A : Type 0} where
   none_kept : {E : Type 0} (k : ℕ) (t : Table) (c : OperatingSystemCommand A) (has : Result Bool E)
       → c ≡ command_in held_reading (form_at k) (table_values t)
       → IfOk has (λ b. IsTrue b ↔ Has k t c)
-      → IfOk (kept c has) (λ o. o ≡ None → (d : OperatingSystemCommand A) → IsHeld d → Has k t d
+      → IfOk (value_if_kept c has) (λ o. o ≡ None → (d : OperatingSystemCommand A) → IsHeld d
+          → Has k t d
       → ⊥)
   none_kept k t c (Err e) is told = tt
   none_kept k t c (Ok true) is told = λ none d is_held it. absurd (none-some c (sym none))
@@ -204,7 +205,7 @@ module _ {A : Type 0} where
       (has : Result Bool E) (result : Result (Option (OperatingSystemCommand A)) E)
       → c ≡ command_in held_reading (form_at k) (table_values t)
       → IfOk has (λ b. IsTrue b ↔ Has k t c)
-      → result ≡ kept c has
+      → result ≡ value_if_kept c has
       → IfOk result (λ o. o ≡ None → (d : OperatingSystemCommand A) → IsHeld d → Has k t d → ⊥)
   none_found k t c has result is told result_is =
       subst (λ r. IfOk r (λ o. o ≡ None → (d : OperatingSystemCommand A) → IsHeld d → Has k t d

@@ -20,10 +20,10 @@ use Rattle.flat_values.proofs.ValuesBack.{Fits}
 use Rattle.flat_values.specs.Fields.{Field, name_number, named_values}
 use Rattle.flat_values.specs.Fields.Value.{Text}
 use Rattle.flat_values.specs.Found.{Reading}
-use Rattle.flat_values.specs.FoundImages.{compose_in, composition_of, compression_of, content_of, count, flag, format_in, frame_in, known, look, order, placement_in, transmit_in, verbosity_in, verbosity_of}
+use Rattle.flat_values.specs.FoundImages.{compose_in, composition_of, compression_of, content_of, count, flag, format_in, frame_in, count_or_zero, look, order, placement_in, transmit_in, verbosity_in, verbosity_of}
 use Rattle.flat_values.specs.Held.{AreWithin, Bounds}
 use Rattle.flat_values.specs.HeldImages.{AreCounts, IsCount, IsOrder, IsPlacement, IsTransmit, compose_counts, content_parts, frame_counts, placement_counts, transmit_counts}
-use Rattle.flat_values.specs.Images.{Numbers, bytes_of, compose_numbers, composition_number, compression_number, counted_field, flagged, format_number, frame_numbers, medium_number, number_fields, optional_field, placement_numbers, transmit_numbers, verbosity_number, verbosity_numbers}
+use Rattle.flat_values.specs.Images.{Numbers, bytes_of, compose_numbers, composition_number, compression_number, counted_field, flag_field, format_number, frame_numbers, medium_number, number_fields, optional_field, placement_numbers, transmit_numbers, verbosity_number, verbosity_numbers}
 use Rattle.flat_values.specs.declared.field_name.FieldName.{FieldName}
 
 -- whether it is this name
@@ -87,7 +87,7 @@ composition_is AlphaBlending = refl
 composition_is Overwrite = refl
 
 -- flags and verbosities read back
-pub flag_back : (b : Bool) → flag (flagged b) ≡ b
+pub flag_back : (b : Bool) → flag (flag_field b) ≡ b
 flag_back false = refl
 flag_back true = refl
 
@@ -96,7 +96,7 @@ verbosity_back v = verbosity_is v
 
 module _ (r : Reading) (b : Bounds) (f : Fits r b) where
   -- numbers within bounds
-  pub known_back : (n : ℕ) → b.Number (2 ^ 32) n → known r (Some (pos n)) ≡ n
+  pub known_back : (n : ℕ) → b.Number (2 ^ 32) n → count_or_zero r (Some (pos n)) ≡ n
   known_back n h = f.number (2 ^ 32) n h
 
   pub count_back : (o : Option ℕ) → IsCount b o → count r (counted_field o) ≡ o

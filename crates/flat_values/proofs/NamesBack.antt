@@ -5,7 +5,7 @@ use Rattle.std.proofs.lemmas.Option.{none-some}
 use Rattle.flat_values.proofs.Tables.{rows_say}
 use Rattle.flat_values.proofs.ValuesBack.{held_fits}
 use Rattle.flat_values.specs.Fields.{Table, named_values, table_values}
-use Rattle.flat_values.specs.Found.{held_form as held_reading, kept}
+use Rattle.flat_values.specs.Found.{held_form as held_reading, value_if_kept}
 use Rattle.flat_values.specs.FoundNames.{HasNames, names_in}
 use Rattle.flat_values.specs.Held.{AreTexts, types}
 use Rattle.flat_values.specs.Queries.{query_fields}
@@ -28,7 +28,7 @@ found t ns texts has =
 -- where none are kept, none have them
 none_kept : {E : Type 0} (t : Table) (ns : List (List ℕ)) (has : Result Bool E)
     → ns ≡ names_in held_reading (table_values t) → IfOk has (λ b. IsTrue b ↔ HasNames t ns)
-    → IfOk (kept ns has) (λ o. o ≡ None → (ms : List (List ℕ)) → AreTexts types ms
+    → IfOk (value_if_kept ns has) (λ o. o ≡ None → (ms : List (List ℕ)) → AreTexts types ms
     → HasNames t ms → ⊥)
 none_kept t ns (Err e) is told = tt
 none_kept t ns (Ok true) is told = λ none ms texts it. none-some ns (sym none)
@@ -38,7 +38,7 @@ none_kept t ns (Ok false) is told = λ none ms texts it.
 
 pub no_names : {E : Type 0} (t : Table) (ns : List (List ℕ)) (has : Result Bool E)
     (result : Result (Option (List (List ℕ))) E) → ns ≡ names_in held_reading (table_values t)
-    → IfOk has (λ b. IsTrue b ↔ HasNames t ns) → result ≡ kept ns has
+    → IfOk has (λ b. IsTrue b ↔ HasNames t ns) → result ≡ value_if_kept ns has
     → IfOk result (λ o. o ≡ None → (ms : List (List ℕ)) → AreTexts types ms → HasNames t ms
     → ⊥)
 no_names t ns has result is told result_is =

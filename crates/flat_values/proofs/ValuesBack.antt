@@ -9,7 +9,7 @@ use Rattle.esc_values.specs.Scalars.{IsSigned}
 use Rattle.flat_values.specs.Commands.{index_fields, part_fields}
 use Rattle.flat_values.specs.Fields.{flag_number, named_values, text_of}
 use Rattle.flat_values.specs.Fields.Value.{Number}
-use Rattle.flat_values.specs.Found.{Reading, below, byte_of, flag_of, held_form, parameters, signed, string_of, utf8_or_none}
+use Rattle.flat_values.specs.Found.{Reading, below, byte_of, flag_of, held_form, parameters, signed_below, string_of, utf8_or_none}
 use Rattle.flat_values.specs.Held.{AreTexts, AreWithin, Bounds, IsPart, Part, parameter_parts, text_parts, types}
 use Rattle.flat_values.specs.Held.Part.{Limited, Parameters, Signed, Text}
 use Rattle.flat_values.specs.Links.{parameter_fields}
@@ -25,7 +25,7 @@ pub record Fits (r : Reading) (b : Bounds) : Type 0 where
 below_is : (limit n : ℕ) → n < limit → below limit n ≡ n
 below_is limit n h = ap (λ b. if b then n else 0) (lt-ltb n limit h)
 
-signed_is : (z : ℤ) → IsSigned 32 z → signed z ≡ z
+signed_is : (z : ℤ) → IsSigned 32 z → signed_below z ≡ z
 signed_is (pos n) h = ap pos (below_is (2 ^ 31) n h)
 signed_is (negsuc n) h = ap (λ b. if b then negsuc n else pos 0) (lt-ltb n (2 ^ 31) h)
 

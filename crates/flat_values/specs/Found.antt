@@ -43,9 +43,9 @@ pub record Reading : Type 0 where
 abbrev pub below : ℕ → ℕ → ℕ
 below limit n = if nat_lt n limit then n else 0
 
-abbrev pub signed : ℤ → ℤ
-signed (pos n) = pos (below (2 ^ 31) n)
-signed (negsuc n) = if nat_lt n (2 ^ 31) then negsuc n else pos 0
+abbrev pub signed_below : ℤ → ℤ
+signed_below (pos n) = pos (below (2 ^ 31) n)
+signed_below (negsuc n) = if nat_lt n (2 ^ 31) then negsuc n else pos 0
 
 abbrev pub utf8_or_none : List ℕ → List ℕ
 utf8_or_none t = unwrap_or (utf8_of t) []
@@ -53,7 +53,7 @@ utf8_or_none t = unwrap_or (utf8_of t) []
 abbrev pub held_form : Reading
 held_form = record {
   number = below;
-  signed = signed;
+  signed = signed_below;
   text = utf8_or_none;
   parameters = put_all [];
 }
@@ -106,7 +106,7 @@ parameters r (k ∷ []) = []
 parameters r (k ∷ v ∷ ss) = (string_of r k.1, string_of r v.1) ∷ parameters r ss
 
 -- a value, where it is kept
-abbrev pub kept : {T E : Type 0} → T → Result Bool E → Result (Option T) E
-kept v (Ok true) = Ok (Some v)
-kept v (Ok false) = Ok None
-kept v (Err e) = Err e
+abbrev pub value_if_kept : {T E : Type 0} → T → Result Bool E → Result (Option T) E
+value_if_kept v (Ok true) = Ok (Some v)
+value_if_kept v (Ok false) = Ok None
+value_if_kept v (Err e) = Err e

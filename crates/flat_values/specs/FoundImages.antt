@@ -57,8 +57,8 @@ flag o = natural o == 1
 abbrev pub count : Reading → Option ℤ → Option ℕ
 count r o = option_map (λ z. r.number (2 ^ 32) (magnitude z)) o
 
-abbrev pub known : Reading → Option ℤ → ℕ
-known r o = r.number (2 ^ 32) (natural o)
+abbrev pub count_or_zero : Reading → Option ℤ → ℕ
+count_or_zero r o = r.number (2 ^ 32) (natural o)
 
 abbrev pub order : Reading → Option ℤ → Option ℤ
 order r o = option_map r.signed o
@@ -157,23 +157,26 @@ compose_in r l = record {
 -- a deletion
 abbrev pub deleted_in : Reading → Deletion → Numbered → KittyImageDelete
 deleted_in r deletion.All l = delete.All (flag (l name.DeletesData))
-deleted_in r deletion.ImageId l = delete.ByImageId (known r (l name.ImageId))
+deleted_in r deletion.ImageId l = delete.ByImageId (count_or_zero r (l name.ImageId))
     (count r (l name.PlacementId)) (flag (l name.DeletesData))
-deleted_in r deletion.ImageNumber l = delete.ByImageNumber (known r (l name.ImageNumber))
+deleted_in r deletion.ImageNumber l = delete.ByImageNumber (count_or_zero r (l name.ImageNumber))
     (count r (l name.PlacementId)) (flag (l name.DeletesData))
 deleted_in r deletion.AtCursor l = delete.AtCursorPosition (flag (l name.DeletesData))
 deleted_in r deletion.Frames l = delete.AnimationFrames (flag (l name.DeletesData))
-deleted_in r deletion.At l = delete.DeleteAt (known r (l name.X)) (known r (l name.Y))
+deleted_in r deletion.At l =
+    delete.DeleteAt (count_or_zero r (l name.X)) (count_or_zero r (l name.Y))
     (flag (l name.DeletesData))
-deleted_in r deletion.AtZ l = delete.DeleteAtZ (known r (l name.X)) (known r (l name.Y))
+deleted_in r deletion.AtZ l =
+    delete.DeleteAtZ (count_or_zero r (l name.X)) (count_or_zero r (l name.Y))
     (known_order r (l name.ZIndex)) (flag (l name.DeletesData))
-deleted_in r deletion.Column l = delete.DeleteColumn (known r (l name.X))
+deleted_in r deletion.Column l = delete.DeleteColumn (count_or_zero r (l name.X))
     (flag (l name.DeletesData))
-deleted_in r deletion.Row l = delete.DeleteRow (known r (l name.Y)) (flag (l name.DeletesData))
+deleted_in r deletion.Row l =
+    delete.DeleteRow (count_or_zero r (l name.Y)) (flag (l name.DeletesData))
 deleted_in r deletion.Z l = delete.DeleteZ (known_order r (l name.ZIndex))
     (flag (l name.DeletesData))
-deleted_in r deletion.Range l = delete.ByImageIdRange (known r (l name.FirstImageId))
-    (known r (l name.LastImageId)) (flag (l name.DeletesData))
+deleted_in r deletion.Range l = delete.ByImageIdRange (count_or_zero r (l name.FirstImageId))
+    (count_or_zero r (l name.LastImageId)) (flag (l name.DeletesData))
 
 module _ {A : Type 0} where
   -- an image that has a text, by its sending

@@ -20,8 +20,8 @@ use Rattle.flat_values.specs.declared.field_name.FieldName.TheVariants as name
 abbrev pub nothing : Known
 nothing = record { place = 0; red = 0; green = 0 }
 
-abbrev pub known : Reading → Known → NamedValue → Known
-known r k s = record {
+abbrev pub known_plus : Reading → Known → NamedValue → Known
+known_plus r k s = record {
   place = if is_named name.PaletteIndex s then byte_of r s.1 else k.place;
   red = if is_named name.Red s then channel_of r s.1 else k.red;
   green = if is_named name.Green s then channel_of r s.1 else k.green;
@@ -40,7 +40,7 @@ abbrev pub items_after : {X : Type 0} → Reading → (ℕ → ColorOrQuery → 
     → List NamedValue → List X
 items_after r f k [] = []
 items_after r f k (s ∷ ss) = option_to_list (option_map (f k.place) (whole r k s))
-    ++ items_after r f (known r k s) ss
+    ++ items_after r f (known_plus r k s) ss
 
 abbrev pub pairs_after : Reading → Known → List NamedValue → List ChangeColorPair
 pairs_after r k ss = items_after r placed_pair k ss

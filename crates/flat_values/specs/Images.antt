@@ -48,8 +48,8 @@ counted_field o = option_map pos o
 abbrev pub known_field : ℕ → Option ℤ
 known_field n = Some (pos n)
 
-abbrev pub flagged : Bool → Option ℤ
-flagged b = Some (flag_number b)
+abbrev pub flag_field : Bool → Option ℤ
+flag_field b = Some (flag_number b)
 
 -- the number of a verbosity; then those of the protocol's other words: formats and verbosities
 -- have the numbers of the protocol
@@ -102,7 +102,7 @@ module _ {A : Type 0} where
       ∷ (name.ImageId, counted_field t.image_id)
       ∷ (name.ImageNumber, counted_field t.image_number)
       ∷ (name.Compression, known_field (compression_number t.compression))
-      ∷ (name.MoreDataFollows, flagged t.more_data_follows) ∷ []
+      ∷ (name.MoreDataFollows, flag_field t.more_data_follows) ∷ []
 
 -- how an image is shown
 abbrev pub placement_sizes : KittyImagePlacement → Numbers
@@ -116,11 +116,11 @@ placement_sizes p =
     ∷ (name.Columns, counted_field p.columns)
     ∷ (name.Rows, counted_field p.rows)
     ∷ (name.PlacementId, counted_field p.placement_id)
-    ∷ (name.DoNotMoveCursor, flagged p.do_not_move_cursor) ∷ []
+    ∷ (name.DoNotMoveCursor, flag_field p.do_not_move_cursor) ∷ []
 
 abbrev pub placement_numbers : KittyImagePlacement → Numbers
 placement_numbers p = placement_sizes p
-    ++ (name.ZIndex, p.z_index) ∷ (name.UnicodePlaceholder, flagged p.unicode_placeholder) ∷ []
+    ++ (name.ZIndex, p.z_index) ∷ (name.UnicodePlaceholder, flag_field p.unicode_placeholder) ∷ []
 
 -- a frame that is sent, and frames that are put over others
 abbrev pub frame_numbers : KittyImageFrame → Numbers
@@ -182,7 +182,7 @@ deletes_data (delete.ByImageIdRange f l d) = d
 
 abbrev pub delete_numbers : KittyImageDelete → Numbers
 delete_numbers w = delete_places w
-    ++ (name.ZIndex, delete_order w) ∷ (name.DeletesData, flagged (deletes_data w)) ∷ []
+    ++ (name.ZIndex, delete_order w) ∷ (name.DeletesData, flag_field (deletes_data w)) ∷ []
 
 -- the id and the number of an image that is kept
 abbrev pub id_numbers : Option ℕ → Option ℕ → Numbers

@@ -1,7 +1,7 @@
 //! This module numbers the words of kitty's protocol.
 ghost use Rattle.std.specs.Prelude.{◌≡◌, Some};
 ghost use Rattle.std.specs.Option.{option_map};
-ghost use Rattle.flat_values.specs.Images.{bytes_of, composition_number, compression_number, counted_field, flagged, format_number, medium_number, verbosity_number};
+ghost use Rattle.flat_values.specs.Images.{bytes_of, composition_number, compression_number, counted_field, flag_field, format_number, medium_number, verbosity_number};
 ghost use Rattle.esc_kitty.specs.Texts.{offset_in, size_in};
 
 use esc_kitty::{
@@ -11,7 +11,7 @@ use esc_kitty::{
 
 // Returns the number of a flag.
 pub(crate) fn flagged(flag: bool) -> Option<u32>
-    ensures { counted_field result ≡ flagged flag }
+    ensures { counted_field result ≡ flag_field flag }
 {
     Some(if flag { 1 } else { 0 })
 }

@@ -1,7 +1,7 @@
 //! This module reads the command of a kind and fields.
 ghost use Rattle.std.specs.Prelude.{◌≡◌, ◌↔◌, IfOk, IfSome, IsTrue, None, OnErr};
 ghost use Rattle.flat_values.specs.Fields.{table_values};
-ghost use Rattle.flat_values.specs.Found.{held_form, kept};
+ghost use Rattle.flat_values.specs.Found.{held_form, value_if_kept};
 ghost use Rattle.flat_values.specs.FoundCommands.{command_in, form_at};
 ghost use Rattle.flat_values.specs.Held.{Has, IsHeld};
 ghost use Rattle.esc_osc.specs.declared.command.OperatingSystemCommand.{OperatingSystemCommand};
@@ -55,7 +55,7 @@ pub(crate) fn kept<T: Drop>(
     value: T,
     is_kept: Result<bool, AllocError>,
 ) -> Result<Option<T>, AllocError>
-    ensures { result ≡ kept value is_kept }
+    ensures { result ≡ value_if_kept value is_kept }
 {
     match is_kept {
         Ok(true) => Ok(Some(value)),

@@ -2,7 +2,7 @@
 //! that memory was refused.
 ghost use Rattle.std.specs.Prelude.{◌≡◌, IfOk, OnErr};
 ghost use Rattle.flat_values.specs.Found.{held_form};
-ghost use Rattle.flat_values.specs.FoundItems.{dynamic_of, items_after, known, nothing, placed_pair, progress_in, whole};
+ghost use Rattle.flat_values.specs.FoundItems.{dynamic_of, items_after, known_plus, nothing, placed_pair, progress_in, whole};
 ghost use Rattle.fallible_alloc.specs.Refusals.{Refused};
 
 use crate::field_name::FieldName;
@@ -28,7 +28,7 @@ const NOTHING: Known = Known {
 
 // Returns the known parts with one more row.
 fn known_with(before: Known, field: &Said<'_>) -> Known
-    ensures { result ≡ known held_form before field.now }
+    ensures { result ≡ known_plus held_form before field.now }
 {
     Known {
         place: if field.is(FieldName::PaletteIndex) {

@@ -1,7 +1,7 @@
 //! This module reads numbers by name, and the words of kitty's protocol, from rows.
 ghost use Rattle.std.specs.Prelude.{◌≡◌};
 ghost use Rattle.flat_values.specs.Found.{held_form, magnitude};
-ghost use Rattle.flat_values.specs.FoundImages.{composition_of, compression_of, count, flag, format_in, format_of, known, known_order, look, natural, order, verbosity_in};
+ghost use Rattle.flat_values.specs.FoundImages.{composition_of, compression_of, count, flag, format_in, format_of, count_or_zero, known_order, look, natural, order, verbosity_in};
 ghost use Rattle.flat_values.specs.declared.field_name.FieldName.TheVariants as name;
 
 use crate::field_name::FieldName;
@@ -51,7 +51,7 @@ pub(crate) fn count(name: FieldName, fields: &[Said<'_>]) -> Option<u32>
 
 // Returns the same, and 0 if there is none.
 pub(crate) fn known(name: FieldName, fields: &[Said<'_>]) -> u32
-    ensures { result ≡ known held_form (look fields.now name) }
+    ensures { result ≡ count_or_zero held_form (look fields.now name) }
 {
     match look(name, fields) {
         Some(number) => length_of(number),

@@ -1,7 +1,7 @@
 //! This module defines the names and values that rows say.
 ghost use Rattle.std.specs.Prelude.{◌≡◌, ◌^◌, IfOk, OnErr, drop, take};
 ghost use Rattle.flat_values.specs.Fields.{row_said, table_values, text_of};
-ghost use Rattle.flat_values.specs.Found.{after, below, byte_of, channel_of, count_of, first, flag_of, held_form, is_named, length_of, magnitude, number_of, signed, size_of, string_of};
+ghost use Rattle.flat_values.specs.Found.{after, below, byte_of, channel_of, count_of, first, flag_of, held_form, is_named, length_of, magnitude, number_of, signed_below, size_of, string_of};
 ghost use Rattle.fallible_alloc.specs.Refusals.{Refused};
 
 use crate::field_name::FieldName;
@@ -145,7 +145,7 @@ pub(crate) fn length_of(number: i64) -> u32
 
 // Returns the number, if it has 32 bits; else 0.
 pub(crate) fn signed(number: i64) -> i32
-    ensures { result ≡ signed number }
+    ensures { result ≡ signed_below number }
 {
     if -2147483648 <= number && number <= 2147483647 {
         number as i32

@@ -1,7 +1,7 @@
 //! This module defines sixel data as rows of numbers, for callers without enums.
 ghost use Rattle.std.specs.Prelude.{◌≡◌, ◌↔◌, IfSome, IsTrue, None};
 ghost use Rattle.flat_values.specs.FoundSixels.{item_in};
-ghost use Rattle.flat_values.specs.Sixels.{colored, drawn, sixel_row};
+ghost use Rattle.flat_values.specs.Sixels.{color_row, pixels_row, sixel_row};
 ghost use Rattle.esc_sixel.specs.declared.sixel_data.SixelData.{SixelData as Piece};
 
 use esc_sixel::SixelData;
@@ -142,7 +142,7 @@ fn are_same(row: &SixelRow, other: &SixelRow) -> bool
 
 // Returns a row of this kind, with pixels that come `count` times.
 fn drawn(kind: u32, pixels: u8, count: u32) -> SixelRow
-    ensures { result ≡ drawn kind pixels count }
+    ensures { result ≡ pixels_row kind pixels count }
 {
     SixelRow {
         kind,
@@ -160,7 +160,7 @@ fn drawn(kind: u32, pixels: u8, count: u32) -> SixelRow
 
 // Returns a row of this kind, with the number of a colour.
 fn colored(kind: u32, color: u16) -> SixelRow
-    ensures { result ≡ colored kind color }
+    ensures { result ≡ color_row kind color }
 {
     SixelRow {
         color,

@@ -8,7 +8,7 @@ use Rattle.heapless_parser.specs.declared.event.EscEvent.{EscEvent}
 use Rattle.heapless_parser.specs.declared.event.TheConstants.{NONE, TEXT, FAILED}
 use Rattle.heapless_parser.specs.declared.numbers.TheConstants.{GROUND}
 use Rattle.heapless_parser.specs.declared.parser.EscParser.{EscParser}
-use Rattle.heapless_parser.specs.Emitted.{emitted, emitted_by, is_run, queued_of}
+use Rattle.heapless_parser.specs.Emitted.{emitted_events, emitted_by, is_run, queued_of}
 use Rattle.heapless_parser.specs.Runs.{Emits, EmitsEvent, IsTextRun}
 use Rattle.heapless_parser.specs.States.{KeptIn}
 
@@ -112,7 +112,7 @@ pub record NotesPlain (event : Changed EscEvent) (bytes : List ℕ) (taken : ℕ
 pub record GivesQueued (parser : Changed EscParser) (event : Changed EscEvent)
     (is_given : Bool) : Type 0 where
   -- the event says it
-  pub emitted : (out bytes : List ℕ) → emitted event.exit.now out bytes
+  pub emitted : (out bytes : List ℕ) → emitted_events event.exit.now out bytes
       ≡ queued_of parser.entry.now.queued_kind parser.entry.now.queued_value
   -- nothing is queued any more
   pub queued : queued_of parser.exit.now.queued_kind parser.exit.now.queued_value ≡ []

@@ -57,8 +57,8 @@ emitted_by e out run = if is_run e.kind then run_of e.kind run else sent_events 
 
 -- The events of an event, where `out` is the upper half of the buffer and `bytes` those of the
 -- call.
-abbrev pub emitted : EscEvent → List ℕ → List ℕ → List Event
-emitted e out bytes = emitted_by e out (placed_bytes e bytes)
+abbrev pub emitted_events : EscEvent → List ℕ → List ℕ → List Event
+emitted_events e out bytes = emitted_by e out (placed_bytes e bytes)
 
 -- the queued character or control
 abbrev pub queued_of : ℕ → ℕ → List Event

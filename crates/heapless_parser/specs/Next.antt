@@ -12,7 +12,7 @@ use Rattle.heapless_parser.specs.declared.parser.EscParser.{EscParser}
 use Rattle.heapless_parser.specs.Ahead.{Fits}
 use Rattle.heapless_parser.specs.Limited.{IsLimited, AddsFewer}
 use Rattle.heapless_parser.specs.States.{KeptIn, HasConsumed, lower, upper}
-use Rattle.heapless_parser.specs.Emitted.{emitted, emitted_by, queued_of, placed_bytes, IsWithin}
+use Rattle.heapless_parser.specs.Emitted.{emitted_events, emitted_by, queued_of, placed_bytes, IsWithin}
 use Rattle.heapless_parser.specs.Takes.{IsInRoom}
 
 -- a buffer, by its halves: one keeps the unfinished string, and a text is copied to the other
@@ -42,7 +42,8 @@ pub record Next (parser : Changed EscParser) (old new : Halves) (bytes : List �
   -- the parser is where it was, and these bytes further, and has handed out the event
   pub given : (s : List ℕ) (es : List Event) → HasConsumed s es parser.entry.now old.memory
       → event.kind ≢ FAILED
-      → HasConsumed (s ++ take taken bytes) (es ++ emitted event new.out bytes) parser.exit.now
+      → HasConsumed (s ++ take taken bytes)
+          (es ++ emitted_events event new.out bytes) parser.exit.now
       new.memory
   -- if there is no event, all bytes were taken
   pub all : event.kind ≡ NONE → (taken ≡ length bytes) × (queued_in parser.exit.now ≡ [])
@@ -81,7 +82,7 @@ pub record ToEvent (parser : Changed EscParser) (old new : Halves) (bytes : List
   pub kept : (u : Unfinished) → KeptIn parser.entry.now old.memory u → event.kind ≢ FAILED
       → KeptIn parser.exit.now new.memory (after_all u (take taken bytes))
   pub says : (u : Unfinished) → KeptIn parser.entry.now old.memory u → event.kind ≢ FAILED
-      → emitted event new.out bytes ++ queued_in parser.exit.now
+      → emitted_events event new.out bytes ++ queued_in parser.exit.now
       ≡ events_all (Some (length old.memory)) u (take taken bytes)
   pub limited : (u : Unfinished) → KeptIn parser.entry.now old.memory u
       → event.kind ≡ LIMIT → IsLimited (length old.memory) u (take taken bytes)

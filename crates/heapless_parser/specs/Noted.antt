@@ -1,6 +1,6 @@
 -- The events of a step, as they are noted.
 use Rattle.std.specs.Prelude.{ℕ, ◌≡◌, ◌≢◌, ◌≤◌, ◌<◌, Bool, true, false, List, [], ◌∷◌, ◌++◌, length}
-use Rattle.esc_values.specs.Clear.{joined}
+use Rattle.esc_values.specs.Clear.{semicolon_list}
 use Rattle.esc_frame.specs.Events.{Event}
 use Rattle.esc_frame.specs.Events.Event.{Print, Execute, EscDispatch, CsiDispatch, OscDispatch, DcsHook, ApcDispatch}
 use Rattle.heapless_parser.specs.declared.event.EscEvent.{EscEvent}
@@ -12,7 +12,7 @@ use Rattle.heapless_parser.specs.Emitted.{said_events, is_run}
 abbrev pub HasRoom : ℕ → Event → Type 0
 HasRoom place (EscDispatch is more f) = length is ≤ 2
 HasRoom place (CsiDispatch es more f) = length es ≤ 256
-HasRoom place (OscDispatch ps) = length (joined ps) ≤ place
+HasRoom place (OscDispatch ps) = length (semicolon_list ps) ≤ place
 HasRoom place (DcsHook f ns is more) = length is ≤ 2
 HasRoom place (ApcDispatch t) = length t ≤ place
 HasRoom place _ = Unit {0}

@@ -9,8 +9,8 @@ abbrev pub weight : Linker → ℕ
 weight l = length l.made.items + 4 * length l.held.items
 
 -- At most so many bytes a reader may hand out before it reads more.
-abbrev pub owed : {R : Type 0} → Linking R → ℕ
-owed l = (length l.linker.made.items - l.at) + 4 * length l.linker.held.items
+abbrev pub debt : {R : Type 0} → Linking R → ℕ
+debt l = (length l.linker.made.items - l.at) + 4 * length l.linker.held.items
 
 -- While a reader read on, with this left and then that, if both are known, the second number grew
 -- by at most four for each byte that was read.

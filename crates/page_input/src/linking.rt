@@ -1,7 +1,7 @@
 //! A reader that makes links of the addresses in a stream.
 ghost use Rattle.std.specs.Prelude.{◌≡◌, ◌≤◌, ◌+◌, IfOk, OnOk, length};
 ghost use Rattle.std.specs.Io.{ReadsAtMost};
-ghost use Rattle.page_input.specs.Linked.{IsPaid, owed};
+ghost use Rattle.page_input.specs.Linked.{IsPaid, debt};
 
 use crate::linker::Linker;
 use esc_decode::Encoding;
@@ -35,7 +35,7 @@ impl<R: Read> Linking<R> {
     /// Returns a reader of the stream of this one, in this encoding, from its beginning; with
     /// links, or not. Takes no memory.
     pub fn new(alloc: Global, encoding: Encoding, is_on: bool, inner: R) -> Linking<R>
-        ensures nothing { owed result ≡ 0 }
+        ensures nothing { debt result ≡ 0 }
         ensures reader { result.inner ≡ inner }
     {
         Linking {
@@ -50,7 +50,7 @@ impl<R: Read> Linking<R> {
     // Reads more, in place of the text that was handed out.
     fn refill(&mut self) -> io::Result<()>
         ensures { OnOk result (IsPaid (R.remaining self.old.inner) (R.remaining self.new.inner)
-            (owed self.old) (owed self.new)) }
+            (debt self.old) (debt self.new)) }
     {
         let mut bytes = [0; BYTES];
         let count = self.inner.read(&mut bytes)?;
@@ -68,7 +68,7 @@ impl<R: Read> Linking<R> {
     // Hands out the text that was made, as much as there is room for.
     fn hand_out(&mut self, buf: &mut [u8]) -> usize
         ensures bound { result ≤ length buf.new }
-        ensures paid { result + owed self.new ≤ owed self.old }
+        ensures paid { result + debt self.new ≤ debt self.old }
         ensures same { self.new.inner ≡ self.old.inner }
     {
         let at = self.at.min(self.linker.made.len());
@@ -82,7 +82,7 @@ impl<R: Read> Read for Linking<R> {
     fn read(&mut self, buf: &mut [u8]) -> io::Result<usize>
         ensures bound { ReadsAtMost result buf.new }
         ensures paid { IfOk result (λ n. IsPaid (R.remaining self.old.inner)
-            (R.remaining self.new.inner) (owed self.old) (n + owed self.new)) }
+            (R.remaining self.new.inner) (debt self.old) (n + debt self.new)) }
     {
         if !self.is_on {
             return self.inner.read(buf);

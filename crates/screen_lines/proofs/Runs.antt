@@ -19,7 +19,7 @@ use Rattle.esc_filter.specs.declared.unicode.Unicode.{Unicode}
 use Rattle.esc_values.proofs.Plain.{is_plain as is_low, plain_is_clear}
 use Rattle.unicode_visibility.specs.Characters.{is_deceiving}
 use Rattle.unicode_visibility.proofs.Ranges.{low_plain}
-use Rattle.screen_lines.specs.Pieces.{Out, instead, is_text, more_room, most_room, out_by, out_from, spelled_ink, spelled_text, spelling}
+use Rattle.screen_lines.specs.Pieces.{Out, replacement, is_text, more_room, most_room, out_by, out_from, spelled_ink, spelled_text, spelling}
 use Rattle.screen_lines.specs.Pieces.Piece.{Change, Character}
 use Rattle.screen_lines.specs.Rows.{cell_pieces, cells_pieces, change_pieces, content_pieces, going_by, held_look, is_blank_content, is_hidden, leads_pieces, mark_pieces, seen_pieces}
 use Rattle.screen_lines.specs.Runs.{BeginWith, HoldsAlone, IsPlain, going_on, ink_after, is_plain_char}
@@ -213,8 +213,9 @@ plain_spelling u b c h =
     let text : is_text c ≡ true =
     ap (λ t. t && not (c == 0x7f)) (plain_is_clear c low) ∙ ap not other in
     let shown : is_deceiving c ≡ false = low_plain c (omega (arith, small)) in
-    ap (λ (t : Bool). if t then if is_deceiving c then instead u b c else AsItIs else Absent) text
-    ∙ ap (λ (t : Bool). if t then instead u b c else AsItIs) shown
+    ap (λ (t : Bool). if t then if is_deceiving c then replacement u b c else AsItIs else Absent)
+        text
+    ∙ ap (λ (t : Bool). if t then replacement u b c else AsItIs) shown
 
 abbrev with_char : Out → ℕ → Out
 with_char o c = record o {

@@ -20,7 +20,7 @@ use Rattle.esc_values.specs.Clear.{is_clear}
 use Rattle.esc_values.proofs.Plain.{is_plain as is_low, plain_clear}
 use Rattle.unicode_visibility.specs.Characters.{is_deceiving, number_text}
 use Rattle.unicode_visibility.specs.Following.{may_follow}
-use Rattle.screen_lines.specs.Pieces.{Out, Piece, begun_text, end_text, ended_ink, id_of, id_text, instead, is_address_char, is_id, is_text, is_writable, lead_length, lead_text, out_by, out_from, piece_ink, piece_text, room_after, spelled_ink, spelled_text, spelling}
+use Rattle.screen_lines.specs.Pieces.{Out, Piece, begun_text, end_text, ended_ink, id_of, id_text, replacement, is_address_char, is_id, is_text, is_writable, lead_length, lead_text, out_by, out_from, piece_ink, piece_text, room_after, spelled_ink, spelled_text, spelling}
 use Rattle.screen_lines.specs.Pieces.Piece.{Change, Character, Lead, LineEnd}
 use Rattle.screen_lines.specs.Rows.{out_by_row, out_by_rows, row_pieces}
 use Rattle.screen_lines.specs.declared.ink.Ink.{Ink}
@@ -52,7 +52,7 @@ text_plain c h =
     clear_plain c q.0 q.1
 
 instead_tokens : (k : Bool) (u : Unicode) (b : Option ℕ) (c : ℕ) → is_plain c ≡ true
-    → IsOfTokens k (spelled_text (instead u b c) c)
+    → IsOfTokens k (spelled_text (replacement u b c) c)
 instead_tokens k Keep b c h = plain_piece k c h
 instead_tokens k Join b c h = by (may_follow b c)
   where
@@ -67,7 +67,7 @@ char_tokens : (k : Bool) (u : Unicode) (b : Option ℕ) (c : ℕ)
 char_tokens k u b c = by (is_text c) refl (is_deceiving c)
   where
     by : (t : Bool) → is_text c ≡ t → (d : Bool) → IsOfTokens k
-        (spelled_text (if t then if d then instead u b c else AsItIs else Absent) c)
+        (spelled_text (if t then if d then replacement u b c else AsItIs else Absent) c)
     by false e d = no_pieces k
     by true e false = plain_piece k c (text_plain c e)
     by true e true = instead_tokens k u b c (text_plain c e)

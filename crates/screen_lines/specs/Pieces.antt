@@ -30,15 +30,15 @@ abbrev pub is_text : ℕ → Bool
 is_text c = is_clear c && not (c == 0x7f)
 
 -- the text in place of a character that deceives, after this character, or none
-abbrev pub instead : Unicode → Option ℕ → ℕ → Spelling
-instead Keep b c = AsItIs
-instead Join b c = if may_follow b c then AsItIs else ByNumber
-instead Show b c = ByNumber
-instead Drop b c = Absent
+abbrev pub replacement : Unicode → Option ℕ → ℕ → Spelling
+replacement Keep b c = AsItIs
+replacement Join b c = if may_follow b c then AsItIs else ByNumber
+replacement Show b c = ByNumber
+replacement Drop b c = Absent
 
 -- and of any
 abbrev pub spelling : Unicode → Option ℕ → ℕ → Spelling
-spelling u b c = if is_text c then if is_deceiving c then instead u b c else AsItIs else Absent
+spelling u b c = if is_text c then if is_deceiving c then replacement u b c else AsItIs else Absent
 
 abbrev pub spelled_text : Spelling → ℕ → List ℕ
 spelled_text AsItIs c = encode_utf8 c

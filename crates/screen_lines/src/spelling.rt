@@ -1,6 +1,6 @@
 //! How a character is written.
 ghost use Rattle.std.specs.Prelude.{◌≡◌};
-ghost use Rattle.screen_lines.specs.Pieces.{instead, is_text, spelling};
+ghost use Rattle.screen_lines.specs.Pieces.{replacement, is_text, spelling};
 
 use esc_filter::{Unicode, is_deceiving, may_follow};
 
@@ -32,7 +32,7 @@ impl Spelling {
 
     // The spelling of a character that deceives.
     fn instead(characters: Unicode, before: Option<char>, c: char) -> Spelling
-        ensures { result ≡ instead characters before c }
+        ensures { result ≡ replacement characters before c }
     {
         match characters {
             Unicode::Keep => Spelling::AsItIs,

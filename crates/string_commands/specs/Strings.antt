@@ -6,14 +6,14 @@ use Rattle.string_commands.specs.Rows.{place_of}
 abbrev pub is_digit : ℕ → Bool
 is_digit b = nat_le 0x30 b && nat_le b 0x39
 
-abbrev pub given : Bool → ℕ → Option ℕ
-given has n = if has then Some n else None
+abbrev pub number_if : Bool → ℕ → Option ℕ
+number_if has n = if has then Some n else None
 
 -- the number that a text begins with, up to a `;` or its end, after the digits of n, if there are
 -- any; none of more than 999,999,999
 abbrev pub number_from : Bool → ℕ → List ℕ → Option ℕ
-number_from has n [] = given has n
-number_from has n (b ∷ bs) = if b == 0x3b then given has n
+number_from has n [] = number_if has n
+number_from has n (b ∷ bs) = if b == 0x3b then number_if has n
     else if is_digit b && nat_le n 99999999 then number_from true (10 * n + (b - 0x30)) bs
     else None
 

@@ -1,7 +1,7 @@
 //! The rows of strings as a stream has them.
 ghost use Rattle.std.specs.Prelude.{◌≡◌, ◌<◌, ◌+◌, ◌*◌, ◌^◌};
 ghost use Rattle.string_commands.specs.Rows.{Finds};
-ghost use Rattle.string_commands.specs.Strings.{after_mark, device_key, given, number_in, place_of_application, place_of_command, place_of_device, put_mark};
+ghost use Rattle.string_commands.specs.Strings.{after_mark, device_key, number_if, number_in, place_of_application, place_of_command, place_of_device, put_mark};
 
 use crate::lookup::find;
 use crate::row::Row;
@@ -68,7 +68,7 @@ fn number_in(text: &[u8]) -> Option<u32>
 
 // Returns a number, if there is one.
 fn given(has_digit: bool, number: u32) -> Option<u32>
-    ensures { result ≡ given has_digit number }
+    ensures { result ≡ number_if has_digit number }
 {
     if has_digit { Some(number) } else { None }
 }

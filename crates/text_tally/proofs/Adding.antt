@@ -3,7 +3,7 @@ use Rattle.std.proofs.Common.{ℕ, ◌≡◌, ◌+◌, ◌<◌, ◌^◌, ◌-◌
 use Rattle.std.specs.List.{sum_by}
 use Rattle.std.proofs.lemmas.List.{take_more}
 use Rattle.std.proofs.lemmas.List.Sums.{sum_by-append}
-use Rattle.text_tally.specs.Amounts.{Adds, added, amount, up_to_most}
+use Rattle.text_tally.specs.Amounts.{Adds, amount_with, amount, up_to_most}
 use Rattle.text_tally.specs.declared.amount.Amount.{Amount}
 
 pub same_amount : (i j n m : ℕ) → i ≡ n → j ≡ m → amount i j ≡ amount n m
@@ -19,13 +19,13 @@ same_sized : (i j n m : ℕ) → i ≡ n → j ≡ m → sized i j ≡ sized n m
 same_sized i j n m e f = ap (λ k. sized k j) e ∙ ap (sized n) f
 
 -- an amount, with more of it
-pub amount_added : (i j n m : ℕ) → added n m (amount i j) ≡ amount (i + n) (j + m)
+pub amount_added : (i j n m : ℕ) → amount_with n m (amount i j) ≡ amount (i + n) (j + m)
 amount_added i j n m =
     same_sized (up_to_most (up_to_most i + n)) (up_to_most (up_to_most j + m)) (up_to_most (i + n))
     (up_to_most (j + m)) (most_twice i n) (most_twice j m)
 
-pub one_added : (n m : ℕ) (x y : Amount) → y ≡ added n m x → Adds n m x y
-one_added n m x y e = λ i j h. e ∙ ap (added n m) h ∙ amount_added i j n m
+pub one_added : (n m : ℕ) (x y : Amount) → y ≡ amount_with n m x → Adds n m x y
+one_added n m x y e = λ i j h. e ∙ ap (amount_with n m) h ∙ amount_added i j n m
 
 -- nothing more, and more after more
 pub none_added : (x : Amount) → Adds 0 0 x x

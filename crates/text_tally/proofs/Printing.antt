@@ -12,7 +12,7 @@ use Rattle.esc_actions.specs.declared.action.Action.{Action}
 use Rattle.esc_actions.specs.declared.action.Action.TheVariants as action
 use Rattle.esc_frame.specs.Scans.{IsRun, is_text_byte}
 use Rattle.esc_parse.specs.Given.{At, StopsAt}
-use Rattle.text_tally.specs.Amounts.{Adds, added, amount}
+use Rattle.text_tally.specs.Amounts.{Adds, amount_with, amount}
 use Rattle.text_tally.specs.PrintedText.{bytes_of, chars_of, printed_bytes, printed_chars, values_of}
 use Rattle.text_tally.specs.Tallies.{Prints, printed_amount}
 use Rattle.text_tally.specs.declared.amount.Amount.{Amount}
@@ -22,13 +22,14 @@ use Rattle.text_tally.proofs.Adding.{amount_added, both_added, list_added, none_
 -- ---- a run of text
 
 abbrev pub with_more : Printed → ℕ → Printed
-with_more p n = record p { amount = added n n p.amount }
+with_more p n = record p { amount = amount_with n n p.amount }
 
 low : (b : ℕ) → is_text_byte b ≡ true → b < 0x80
 low b h = grind (arith, nat_tests)
 
 -- so many, and then so many more
-added_twice : (n m : ℕ) (x : Amount) → added m m (added n n x) ≡ added (n + m) (n + m) x
+added_twice : (n m : ℕ) (x : Amount) → amount_with m m (amount_with n n x)
+    ≡ amount_with (n + m) (n + m) x
 added_twice n m x =
     amount_added (x.chars + n) (x.bytes + n) m m
     ∙ ap (λ k. amount k ((x.bytes + n) + m)) (omega arith)
@@ -37,7 +38,7 @@ added_twice n m x =
 one_printed : (A : Type 0) (p : Printed) (b : ℕ) → is_text_byte b ≡ true
     → Prints {A = A} p (action.Print b) (with_more p 1)
 one_printed A p b text =
-    ap (λ n. record p { amount = added 1 n p.amount }) (sym (len_utf8_ascii b (low b text)))
+    ap (λ n. record p { amount = amount_with 1 n p.amount }) (sym (len_utf8_ascii b (low b text)))
 
 run_printed : (A : Type 0) (p : Printed) (b : ℕ) (bs : List ℕ)
     → list_all is_text_byte (b ∷ bs) ≡ true
@@ -56,7 +57,7 @@ run_printed A p b (c ∷ bs) all =
     )
 
 pub text_printed : (A : Type 0) (p q : Printed) (t : List ℕ) → IsRun is_text_byte t
-    → q ≡ record p { amount = added (length t) (length t) p.amount }
+    → q ≡ record p { amount = amount_with (length t) (length t) p.amount }
     → FoldsTo (Prints {A = A}) p (map action.Print t) q
 text_printed A p q [] run is = absurd (omega (arith, run.some))
 text_printed A p q (b ∷ bs) run is =

@@ -11,8 +11,8 @@ abbrev pub amount : ℕ → ℕ → Amount
 amount n m = record { chars = up_to_most n; bytes = up_to_most m }
 
 -- with so many more
-abbrev pub added : ℕ → ℕ → Amount → Amount
-added n m x = amount (x.chars + n) (x.bytes + m)
+abbrev pub amount_with : ℕ → ℕ → Amount → Amount
+amount_with n m x = amount (x.chars + n) (x.bytes + m)
 
 -- whatever x is the amount of, y is that with so many more
 abbrev pub Adds : ℕ → ℕ → Amount → Amount → Type 0

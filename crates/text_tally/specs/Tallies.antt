@@ -4,7 +4,7 @@ use Rattle.esc_actions.specs.Values.{value_of}
 use Rattle.esc_actions.specs.declared.action.Action.{Action}
 use Rattle.esc_parse.specs.Fed.{ParserHasConsumedWithin}
 use Rattle.esc_screen.specs.declared.cell.Cell.{Cell}
-use Rattle.text_tally.specs.Amounts.{added, amount}
+use Rattle.text_tally.specs.Amounts.{amount_with, amount}
 use Rattle.text_tally.specs.PrintedText.{bytes_of, chars_of, printed_bytes, printed_chars, values_of}
 use Rattle.text_tally.specs.RowText.{rows_bytes, rows_chars}
 use Rattle.text_tally.specs.declared.amount.Amount.{Amount}
@@ -14,7 +14,7 @@ use Rattle.text_tally.specs.declared.tally.Tally.{Tally}
 -- an action is counted
 abbrev pub Prints : {A : Type 0} → Printed → Action A → Printed → Type 0
 Prints p a q = q ≡ record p {
-  amount = added (chars_of p.rows p.columns (value_of a)) (bytes_of (value_of a)) p.amount;
+  amount = amount_with (chars_of p.rows p.columns (value_of a)) (bytes_of (value_of a)) p.amount;
 }
 
 -- the text that a stream prints on a screen of so many rows and columns, and that of rows

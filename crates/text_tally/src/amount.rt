@@ -1,6 +1,6 @@
 //! Amounts of text.
 ghost use Rattle.std.specs.Prelude.{◌≡◌};
-ghost use Rattle.text_tally.specs.Amounts.{added, amount, missing};
+ghost use Rattle.text_tally.specs.Amounts.{amount_with, amount, missing};
 
 /// How much text: how many characters, and how many bytes these take in UTF-8, each up to
 /// 2^64 - 1.
@@ -23,7 +23,7 @@ impl Amount {
     /// Adds so many characters and bytes.
     #[inline]
     pub fn add(&mut self, chars: u64, bytes: u64)
-        ensures { self.new ≡ added chars bytes self.old }
+        ensures { self.new ≡ amount_with chars bytes self.old }
     {
         self.chars = self.chars.saturating_add(chars);
         self.bytes = self.bytes.saturating_add(bytes);

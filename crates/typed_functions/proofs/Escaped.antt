@@ -30,7 +30,7 @@ use Rattle.typed_functions.specs.declared.unfit.Unfit.{Unfit}
 use Rattle.std.specs.Option.{option_map}
 use Rattle.typed_functions.specs.Arguments.{in_range}
 use Rattle.typed_functions.specs.Charsets.{charset94_at, charset94_byte, charset96_at, charset96_byte, charset_bytes, is_short, multibyte_at, multibyte_byte, pair_at, pair_first, pair_last}
-use Rattle.typed_functions.specs.Escapes.{AreBytes, bytes_of_key, designated, designated_by_two, escape_bytes, escape_of, function_for, of_bytes, of_function, of_intermediates, of_two, place, set_of, escape_value}
+use Rattle.typed_functions.specs.Escapes.{AreBytes, bytes_of_key, charset_by_final, designated_by_two, escape_bytes, escape_of, function_for, of_bytes, of_function, of_intermediates, of_two, place, set_of, escape_value}
 use Rattle.typed_functions.specs.Functions.{charset, escape}
 
 pub below : (e : Escape) → place e < 59
@@ -134,7 +134,7 @@ no_set (Err u) e h = cc
 
 has_value : (o : Option Escape) (f : EscapeFunction) (b : ℕ) (e : Escape)
     → escape_value o f b ≡ escape e → o ≡ Some e
-has_value None f b e h = absurd (no_set (designated f b) e h)
+has_value None f b e h = absurd (no_set (charset_by_final f b) e h)
 has_value (Some d) f b e h = cc
 
 its_key : (o : Option EscapeFunction) (k b : ℕ) (e : Escape) → function_of k ≡ o
@@ -252,7 +252,7 @@ pair_back pair.DecRussian = refl
 -- a designation is found, and has no other value
 set_back : (f : EscapeFunction) (i b : ℕ) (c : Charset)
     → function_of (sequence_key (Some i) b) ≡ Some f → escape_of f ≡ None
-    → designated f b ≡ Ok c → of_bytes (Some i) b ≡ charset c
+    → charset_by_final f b ≡ Ok c → of_bytes (Some i) b ≡ charset c
 set_back f i b c found none set =
     ap (λ o. of_function o b) found ∙ ap (λ o. escape_value o f b) none ∙ ap set_of set
 

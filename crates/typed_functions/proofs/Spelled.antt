@@ -8,7 +8,7 @@ use Rattle.esc_values.specs.declared.csi_param.CsiParam.TheVariants.{P}
 use Rattle.control_functions.specs.declared.control_function.ControlFunction.{ControlFunction}
 use Rattle.control_functions.specs.declared.control_function.ControlFunction.TheVariants as control
 use Rattle.control_functions.specs.Functions.{function_of, key_with, mark_of, marks, put_mark, sequence_key}
-use Rattle.control_functions.specs.Rows.{packed}
+use Rattle.control_functions.specs.Rows.{base_256}
 use Rattle.esc_values.specs.Params.{is_private_prefix}
 use Rattle.typed_functions.specs.declared.arguments.Arguments.{Arguments}
 use Rattle.typed_functions.specs.declared.arguments.Arguments.TheVariants as args
@@ -47,8 +47,8 @@ use Rattle.typed_functions.specs.declared.cursor_style.CursorStyle.TheVariants a
 use Rattle.typed_functions.specs.Arguments.{AreArguments, IsOneBased, after_prefix, arguments, entries_of, in_range, is_intermediate, number_first}
 use Rattle.typed_functions.specs.Choices.{cursor_style_at, cursor_style_number, cursor_tabulation_control_at, cursor_tabulation_control_number, erase_in_display_at, erase_in_display_number, erase_in_line_at, erase_in_line_number, kitty_flags_change_at, kitty_flags_change_number, mode_state_at, mode_state_number, tabulation_clear_at, tabulation_clear_number}
 use Rattle.typed_functions.specs.Counts.{at_place, one_based, one_based_of}
-use Rattle.typed_functions.specs.Functions.{Value, cursor, device, edit, keyboard, mode_status, mouse, window, chosen_value, kind_of, made, made_of, of_kind, of_named, of_params, several, stated_value}
-use Rattle.typed_functions.specs.Spellings.{between, cursor_spelling, device_spelling, edit_spelling, keyboard_spelling, mode_status_spelling, mouse_spelling, window_numbers, window_spelling, entries, plain, private, private_between}
+use Rattle.typed_functions.specs.Functions.{Value, cursor, device, edit, keyboard, mode_status, mouse, window, chosen_value, kind_of, value_with, made_of, of_kind, of_named, of_params, several, stated_value}
+use Rattle.typed_functions.specs.Spellings.{intermediate_spelling, cursor_spelling, device_spelling, edit_spelling, keyboard_spelling, mode_status_spelling, mouse_spelling, window_numbers, window_spelling, entries, plain, private, private_between}
 use Rattle.typed_functions.specs.Windows.{IsWindow}
 use Rattle.typed_functions.proofs.Keys as keys
 
@@ -215,87 +215,90 @@ back_by : (f : ControlFunction) (s : Spelling) (v : Value)
     → of_kind (kind_of f) f (entries s)
     ≡ made_of f (arguments (kind_for s.arguments) (after_prefix (entries s)))
     → arguments (kind_for s.arguments) (after_prefix (entries s)) ≡ Ok s.arguments
-    → made f s.arguments ≡ v → of_params (entries s) s.last ≡ v
-back_by f s v found kind read made =
-    ap (λ o. of_named o (entries s)) found ∙ kind ∙ ap (made_of f) read ∙ made
+    → value_with f s.arguments ≡ v → of_params (entries s) s.last ≡ v
+back_by f s v found kind read value_with =
+    ap (λ o. of_named o (entries s)) found ∙ kind ∙ ap (made_of f) read ∙ value_with
 
 plain_back : (f : ControlFunction) (a : Arguments) (last : ℕ) (v : Value) → AreArguments a
     → function_of (key_with 1 (length (entries (plain a last))) last) ≡ Some f
     → of_kind (kind_of f) f (entries (plain a last))
     ≡ made_of f (arguments (kind_for a) (after_prefix (entries (plain a last))))
-    → made f a ≡ v → of_params (entries (plain a last)) last ≡ v
-plain_back f a last v h found kind made =
+    → value_with f a ≡ v → of_params (entries (plain a last)) last ≡ v
+plain_back f a last v h found kind value_with =
     let b = back a [] h nothing_after in
     let key : sequence_key (entries (plain a last)) last
     ≡ key_with 1 (length (entries (plain a last))) last =
-    ap (λ ms. key_with (packed 1 ms) (length (entries (plain a last))) last) b.unmarked in
+    ap (λ ms. key_with (base_256 1 ms) (length (entries (plain a last))) last) b.unmarked in
     back_by f (plain a last) v (ap function_of key ∙ found) kind
-    (ap (arguments (kind_for a)) b.kept ∙ b.read) made
+    (ap (arguments (kind_for a)) b.kept ∙ b.read) value_with
 
 private_back : (p : ℕ) (f : ControlFunction) (a : Arguments) (last : ℕ) (v : Value)
     → AreArguments a → mark_of (P p) ≡ Some p → is_private_prefix p ≡ true
-    → function_of (key_with (packed 1 (p ∷ [])) (length (entries (private p a last))) last)
+    → function_of (key_with (base_256 1 (p ∷ [])) (length (entries (private p a last))) last)
     ≡ Some f
     → of_kind (kind_of f) f (entries (private p a last))
     ≡ made_of f (arguments (kind_for a) (after_prefix (entries (private p a last))))
-    → made f a ≡ v → of_params (entries (private p a last)) last ≡ v
-private_back p f a last v h mark prefix found kind made =
+    → value_with f a ≡ v → of_params (entries (private p a last)) last ≡ v
+private_back p f a last v h mark prefix found kind value_with =
     let b = back a [] h nothing_after in
     let key : sequence_key (entries (private p a last)) last
-    ≡ key_with (packed 1 (p ∷ [])) (length (entries (private p a last))) last =
-    ap (λ ms. key_with (packed 1 ms) (length (entries (private p a last))) last)
+    ≡ key_with (base_256 1 (p ∷ [])) (length (entries (private p a last))) last =
+    ap (λ ms. key_with (base_256 1 ms) (length (entries (private p a last))) last)
     (ap (λ m. put_mark m (marks (entries_of a ++ []))) mark ∙ ap (λ ms. p ∷ ms) b.unmarked) in
     let inner : after_prefix (entries (private p a last)) ≡ entries_of a ++ [] = rw prefix refl in
     back_by f (private p a last) v (ap function_of key ∙ found) kind
-    (ap (arguments (kind_for a)) inner ∙ b.read) made
+    (ap (arguments (kind_for a)) inner ∙ b.read) value_with
 
 between_back : (f : ControlFunction) (a : Arguments) (m last : ℕ) (v : Value) → AreArguments a
     → IsTail (P m ∷ [])
-    → function_of (key_with (packed 1 (marks (P m ∷ []))) (length (entries (between a m last)))
+    → function_of (key_with (base_256 1 (marks (P m ∷ [])))
+        (length (entries (intermediate_spelling a m last)))
     last)
     ≡ Some f
-    → of_kind (kind_of f) f (entries (between a m last))
-    ≡ made_of f (arguments (kind_for a) (after_prefix (entries (between a m last))))
-    → made f a ≡ v → of_params (entries (between a m last)) last ≡ v
-between_back f a m last v h i found kind made =
+    → of_kind (kind_of f) f (entries (intermediate_spelling a m last))
+    ≡ made_of f (arguments (kind_for a) (after_prefix (entries (intermediate_spelling a m last))))
+    → value_with f a ≡ v → of_params (entries (intermediate_spelling a m last)) last ≡ v
+between_back f a m last v h i found kind value_with =
     let b = back a (P m ∷ []) h i in
-    let key : sequence_key (entries (between a m last)) last
-    ≡ key_with (packed 1 (marks (P m ∷ []))) (length (entries (between a m last))) last =
-    ap (λ ms. key_with (packed 1 ms) (length (entries (between a m last))) last) b.unmarked in
-    back_by f (between a m last) v (ap function_of key ∙ found) kind
-    (ap (arguments (kind_for a)) b.kept ∙ b.read) made
+    let key : sequence_key (entries (intermediate_spelling a m last)) last
+    ≡ key_with (base_256 1 (marks (P m ∷ [])))
+        (length (entries (intermediate_spelling a m last))) last =
+    ap (λ ms. key_with (base_256 1 ms) (length (entries (intermediate_spelling a m last))) last)
+        b.unmarked in
+    back_by f (intermediate_spelling a m last) v (ap function_of key ∙ found) kind
+    (ap (arguments (kind_for a)) b.kept ∙ b.read) value_with
 
 private_between_back : (p : ℕ) (f : ControlFunction) (a : Arguments) (m last : ℕ) (v : Value)
     → AreArguments a → IsTail (P m ∷ []) → mark_of (P p) ≡ Some p → is_private_prefix p ≡ true
-    → function_of (key_with (packed 1 (p ∷ marks (P m ∷ [])))
+    → function_of (key_with (base_256 1 (p ∷ marks (P m ∷ [])))
     (length (entries (private_between p a m last))) last)
     ≡ Some f
     → of_kind (kind_of f) f (entries (private_between p a m last))
     ≡ made_of f (arguments (kind_for a) (after_prefix (entries (private_between p a m last))))
-    → made f a ≡ v → of_params (entries (private_between p a m last)) last ≡ v
-private_between_back p f a m last v h i mark prefix found kind made =
+    → value_with f a ≡ v → of_params (entries (private_between p a m last)) last ≡ v
+private_between_back p f a m last v h i mark prefix found kind value_with =
     let b = back a (P m ∷ []) h i in
     let all = entries (private_between p a m last) in
     let key : sequence_key all last
-    ≡ key_with (packed 1 (p ∷ marks (P m ∷ []))) (length all) last =
-    ap (λ ms. key_with (packed 1 ms) (length all) last)
+    ≡ key_with (base_256 1 (p ∷ marks (P m ∷ []))) (length all) last =
+    ap (λ ms. key_with (base_256 1 ms) (length all) last)
     (ap (λ k. put_mark k (marks (entries_of a ++ P m ∷ []))) mark ∙ ap (λ ms. p ∷ ms) b.unmarked) in
     let inner : after_prefix all ≡ entries_of a ++ P m ∷ [] = rw prefix refl in
     back_by f (private_between p a m last) v (ap function_of key ∙ found) kind
-    (ap (arguments (kind_for a)) inner ∙ b.read) made
+    (ap (arguments (kind_for a)) inner ∙ b.read) value_with
 
 -- one choice, if there may be several
 choice_back : (f : ControlFunction) (n last : ℕ) (v : Value) → n < 256
     → function_of (key_with 1 (length (entries (plain (args.Selector n) last))) last) ≡ Some f
-    → kind_of f ≡ Some kind.Selectors → made f (args.Selector n) ≡ v
+    → kind_of f ≡ Some kind.Selectors → value_with f (args.Selector n) ≡ v
     → of_params (entries (plain (args.Selector n) last)) last ≡ v
-choice_back f n last v h found kinds made =
+choice_back f n last v h found kinds value_with =
     let all = entries (plain (args.Selector n) last) in
     let b = back (args.Selector n) [] h nothing_after in
     let key : sequence_key all last ≡ key_with 1 (length all) last =
-    ap (λ ms. key_with (packed 1 ms) (length all) last) b.unmarked in
+    ap (λ ms. key_with (base_256 1 ms) (length all) last) b.unmarked in
     ap (λ o. of_named o all) (ap function_of key ∙ found) ∙ ap (λ k. of_kind k f all) kinds
-    ∙ ap (several f (after_prefix all)) (ap (arguments kind.Selector) b.kept ∙ b.read) ∙ made
+    ∙ ap (several f (after_prefix all)) (ap (arguments kind.Selector) b.kept ∙ b.read) ∙ value_with
 
 -- `T` with at most one parameter, and `s` with one or more
 down_by : (n : Ordinal) (b : Bool) → (n.zero_based == 0) ≡ b
@@ -545,7 +548,7 @@ mouse_back (mouses.Released a b c) h =
 
 -- its numbers make it
 operated : (w : Window) → IsWindow w → (kind_for (window_numbers w) ≡ kind.Numbers)
-    × (made control.XTWINOPS (window_numbers w) ≡ window w)
+    × (value_with control.XTWINOPS (window_numbers w) ≡ window w)
 operated windows.DeIconify i = (refl, refl)
 operated windows.Iconify i = (refl, refl)
 operated (windows.MoveWindow x y) i = (refl, refl)

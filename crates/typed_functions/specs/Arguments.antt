@@ -56,13 +56,13 @@ no_more None x = Ok x
 no_more (Some es) x = Err unfit.TooMany
 
 -- the only parameter
-abbrev pub one : List CsiParam → Result (Option ℕ) Unfit
-one es = then_read (next es) (λ a. no_more a.1 a.0)
+abbrev pub only_parameter : List CsiParam → Result (Option ℕ) Unfit
+only_parameter es = then_read (next es) (λ a. no_more a.1 a.0)
 
 abbrev pub one_more : Option ℕ → Option (List CsiParam)
     → Result (Option ℕ × Option ℕ) Unfit
 one_more first None = Ok (first, None)
-one_more first (Some es) = then_read (one es) (λ second. Ok (first, second))
+one_more first (Some es) = then_read (only_parameter es) (λ second. Ok (first, second))
 
 -- the only two; the second may be missing
 abbrev pub two : List CsiParam → Result (Option ℕ × Option ℕ) Unfit
@@ -151,12 +151,12 @@ three es = then_read (next es) (λ a. two_more a.0 a.1)
 
 -- the parameters of a kind
 abbrev pub arguments : Kind → List CsiParam → Result Arguments Unfit
-arguments kind.Nothing es = then_read (one es) no_number
-arguments kind.Zero es = then_read (one es) zero
-arguments kind.Count es = then_read (one es) count
+arguments kind.Nothing es = then_read (only_parameter es) no_number
+arguments kind.Zero es = then_read (only_parameter es) zero
+arguments kind.Count es = then_read (only_parameter es) count
 arguments kind.Place es = then_read (two es) (λ p. place p.0 p.1)
 arguments kind.Margins es = then_read (two es) (λ p. margins p.0 p.1)
-arguments kind.Selector es = then_read (one es) selector
+arguments kind.Selector es = then_read (only_parameter es) selector
 arguments kind.Flags es = then_read (two es) (λ p. flags p.0 p.1)
 arguments kind.Report es = then_read (three es) (λ p. report p.0 p.1 p.2)
 arguments kind.Numbers es = then_read (three es) (λ p. more_words (first_word p.0) p.1 p.2)

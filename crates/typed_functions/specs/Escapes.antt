@@ -45,16 +45,16 @@ abbrev pub escape_sequence : Escape → Esc
 escape_sequence e = esc_of (escape_bytes e).0 (escape_bytes e).1
 
 -- the set that a function designates by this final byte
-abbrev pub designated : EscapeFunction → ℕ → Result Charset Unfit
-designated functions.GZD4 b = in_range (option_map charsets.G0 (charset94_at b))
-designated functions.G1D4 b = in_range (option_map charsets.G1 (charset94_at b))
-designated functions.G2D4 b = in_range (option_map charsets.G2 (charset94_at b))
-designated functions.G3D4 b = in_range (option_map charsets.G3 (charset94_at b))
-designated functions.G1D6 b = in_range (option_map charsets.G1Of96 (charset96_at b))
-designated functions.G2D6 b = in_range (option_map charsets.G2Of96 (charset96_at b))
-designated functions.G3D6 b = in_range (option_map charsets.G3Of96 (charset96_at b))
-designated functions.GZDM4 b = in_range (option_map charsets.G0Multibyte (short_at b))
-designated _ b = Err unfit.Untyped
+abbrev pub charset_by_final : EscapeFunction → ℕ → Result Charset Unfit
+charset_by_final functions.GZD4 b = in_range (option_map charsets.G0 (charset94_at b))
+charset_by_final functions.G1D4 b = in_range (option_map charsets.G1 (charset94_at b))
+charset_by_final functions.G2D4 b = in_range (option_map charsets.G2 (charset94_at b))
+charset_by_final functions.G3D4 b = in_range (option_map charsets.G3 (charset94_at b))
+charset_by_final functions.G1D6 b = in_range (option_map charsets.G1Of96 (charset96_at b))
+charset_by_final functions.G2D6 b = in_range (option_map charsets.G2Of96 (charset96_at b))
+charset_by_final functions.G3D6 b = in_range (option_map charsets.G3Of96 (charset96_at b))
+charset_by_final functions.GZDM4 b = in_range (option_map charsets.G0Multibyte (short_at b))
+charset_by_final _ b = Err unfit.Untyped
 
 -- the set that a function of two intermediates designates by its second intermediate and this final
 -- byte
@@ -82,7 +82,7 @@ set_of (Err u) = other u
 
 abbrev pub escape_value : Option Escape → EscapeFunction → ℕ → Value
 escape_value (Some e) f b = escape e
-escape_value None f b = set_of (designated f b)
+escape_value None f b = set_of (charset_by_final f b)
 
 abbrev pub of_function : Option EscapeFunction → ℕ → Value
 of_function None b = other unfit.Unnamed

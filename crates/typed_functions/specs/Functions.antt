@@ -43,7 +43,7 @@ use Rattle.typed_functions.specs.declared.unfit.Unfit.TheVariants as unfit
 use Rattle.typed_functions.specs.Arguments.{after_prefix, arguments, in_range}
 use Rattle.typed_functions.specs.Choices.{cursor_style_at, cursor_tabulation_control_at, erase_in_display_at, erase_in_line_at, kitty_flags_change_at, mode_state_at, tabulation_clear_at}
 use Rattle.typed_functions.specs.Renditions.{number}
-use Rattle.typed_functions.specs.Selections.{left, modes_left, mode_numbers, selections, whole_entries}
+use Rattle.typed_functions.specs.Selections.{renditions_left, modes_left, mode_numbers, selections, whole_entries}
 use Rattle.typed_functions.specs.Windows.{operation}
 
 -- a typed value, without the place of its parameters in memory
@@ -74,7 +74,7 @@ value_of (function.Charset c) = charset c
 value_of (function.Escape e) = escape e
 value_of (function.Mode c ms) = modes c (modes_left ms)
 value_of (function.Tabs c ns) = tabs c (modes_left ns)
-value_of (function.Sgr r) = renditions (left r)
+value_of (function.Sgr r) = renditions (renditions_left r)
 value_of (function.Other u) = other u
 
 -- the parameters of a function, if it has a typed value
@@ -158,91 +158,93 @@ bare control.DA3 = device devices.RequestTertiaryDeviceAttributes
 bare control.XTVERSION = device devices.RequestTerminalNameAndVersion
 bare _ = other unfit.Untyped
 
-abbrev pub counted : ControlFunction → Ordinal → Value
-counted control.CUU n = cursor (cursors.Up n)
-counted control.CUD n = cursor (cursors.Down n)
-counted control.CUF n = cursor (cursors.Right n)
-counted control.CUB n = cursor (cursors.Left n)
-counted control.CNL n = cursor (cursors.NextLine n)
-counted control.CPL n = cursor (cursors.PrecedingLine n)
-counted control.CHA n = cursor (cursors.CharacterAbsolute n)
-counted control.CHT n = cursor (cursors.ForwardTabulation n)
-counted control.CVT n = cursor (cursors.LineTabulation n)
-counted control.CBT n = cursor (cursors.BackwardTabulation n)
-counted control.HPA n = cursor (cursors.CharacterPositionAbsolute n)
-counted control.HPR n = cursor (cursors.CharacterPositionForward n)
-counted control.VPA n = cursor (cursors.LinePositionAbsolute n)
-counted control.VPR n = cursor (cursors.LinePositionForward n)
-counted control.HPB n = cursor (cursors.CharacterPositionBackward n)
-counted control.VPB n = cursor (cursors.LinePositionBackward n)
-counted control.ICH n = edit (edits.InsertCharacter n)
-counted control.IL n = edit (edits.InsertLine n)
-counted control.DL n = edit (edits.DeleteLine n)
-counted control.DCH n = edit (edits.DeleteCharacter n)
-counted control.SU n = edit (edits.ScrollUp n)
-counted control.SD n = edit (edits.ScrollDown n)
-counted control.ECH n = edit (edits.EraseCharacter n)
-counted control.REP n = edit (edits.Repeat n)
-counted control.SL n = edit (edits.ScrollLeft n)
-counted control.SR n = edit (edits.ScrollRight n)
-counted control.DECIC n = edit (edits.InsertColumn n)
-counted control.DECDC n = edit (edits.DeleteColumn n)
-counted control.KITTYPOP n = keyboard (keyboards.PopKittyState n)
-counted _ n = other unfit.Untyped
+abbrev pub count_value : ControlFunction → Ordinal → Value
+count_value control.CUU n = cursor (cursors.Up n)
+count_value control.CUD n = cursor (cursors.Down n)
+count_value control.CUF n = cursor (cursors.Right n)
+count_value control.CUB n = cursor (cursors.Left n)
+count_value control.CNL n = cursor (cursors.NextLine n)
+count_value control.CPL n = cursor (cursors.PrecedingLine n)
+count_value control.CHA n = cursor (cursors.CharacterAbsolute n)
+count_value control.CHT n = cursor (cursors.ForwardTabulation n)
+count_value control.CVT n = cursor (cursors.LineTabulation n)
+count_value control.CBT n = cursor (cursors.BackwardTabulation n)
+count_value control.HPA n = cursor (cursors.CharacterPositionAbsolute n)
+count_value control.HPR n = cursor (cursors.CharacterPositionForward n)
+count_value control.VPA n = cursor (cursors.LinePositionAbsolute n)
+count_value control.VPR n = cursor (cursors.LinePositionForward n)
+count_value control.HPB n = cursor (cursors.CharacterPositionBackward n)
+count_value control.VPB n = cursor (cursors.LinePositionBackward n)
+count_value control.ICH n = edit (edits.InsertCharacter n)
+count_value control.IL n = edit (edits.InsertLine n)
+count_value control.DL n = edit (edits.DeleteLine n)
+count_value control.DCH n = edit (edits.DeleteCharacter n)
+count_value control.SU n = edit (edits.ScrollUp n)
+count_value control.SD n = edit (edits.ScrollDown n)
+count_value control.ECH n = edit (edits.EraseCharacter n)
+count_value control.REP n = edit (edits.Repeat n)
+count_value control.SL n = edit (edits.ScrollLeft n)
+count_value control.SR n = edit (edits.ScrollRight n)
+count_value control.DECIC n = edit (edits.InsertColumn n)
+count_value control.DECDC n = edit (edits.DeleteColumn n)
+count_value control.KITTYPOP n = keyboard (keyboards.PopKittyState n)
+count_value _ n = other unfit.Untyped
 
-abbrev pub placed : ControlFunction → Ordinal → Ordinal → Value
-placed control.CUP a b = cursor (cursors.Position a b)
-placed control.HVP a b = cursor (cursors.CharacterAndLinePosition a b)
-placed control.CPR a b = cursor (cursors.ActivePositionReport a b)
-placed _ a b = other unfit.Untyped
+abbrev pub place_value : ControlFunction → Ordinal → Ordinal → Value
+place_value control.CUP a b = cursor (cursors.Position a b)
+place_value control.HVP a b = cursor (cursors.CharacterAndLinePosition a b)
+place_value control.CPR a b = cursor (cursors.ActivePositionReport a b)
+place_value _ a b = other unfit.Untyped
 
-abbrev pub bounded : ControlFunction → Ordinal → Option Ordinal → Value
-bounded control.DECSTBM a b = cursor (cursors.SetTopAndBottomMargins a b)
-bounded control.DECSLRM a b = cursor (cursors.SetLeftAndRightMargins a b)
-bounded _ a b = other unfit.Untyped
+abbrev pub margins_value : ControlFunction → Ordinal → Option Ordinal → Value
+margins_value control.DECSTBM a b = cursor (cursors.SetTopAndBottomMargins a b)
+margins_value control.DECSLRM a b = cursor (cursors.SetLeftAndRightMargins a b)
+margins_value _ a b = other unfit.Untyped
 
 -- the value of a choice, if there is one
 abbrev pub chosen_value : {X : Type 0} → (X → Value) → Option X → Value
 chosen_value f None = other unfit.OutOfRange
 chosen_value f (Some x) = f x
 
-abbrev pub selected : ControlFunction → ℕ → Value
-selected control.DSR n = if n == 5 then device devices.StatusReport
+abbrev pub selector_value : ControlFunction → ℕ → Value
+selector_value control.DSR n = if n == 5 then device devices.StatusReport
     else if n == 6 then cursor cursors.RequestActivePositionReport
     else other unfit.OutOfRange
-selected control.KITTYPUSH n = keyboard (keyboards.PushKittyState n)
-selected control.TBC n = chosen_value (λ c. cursor (cursors.TabulationClear c))
+selector_value control.KITTYPUSH n = keyboard (keyboards.PushKittyState n)
+selector_value control.TBC n = chosen_value (λ c. cursor (cursors.TabulationClear c))
     (tabulation_clear_at n)
-selected control.CTC n = chosen_value (λ c. cursor (cursors.TabulationControl c))
+selector_value control.CTC n = chosen_value (λ c. cursor (cursors.TabulationControl c))
     (cursor_tabulation_control_at n)
-selected control.DECSCUSR n = chosen_value (λ c. cursor (cursors.CursorStyle c)) (cursor_style_at n)
-selected control.ED n = chosen_value (λ c. edit (edits.EraseInDisplay c)) (erase_in_display_at n)
-selected control.EL n = chosen_value (λ c. edit (edits.EraseInLine c)) (erase_in_line_at n)
-selected control.DECSED n = chosen_value (λ c. edit (edits.SelectiveEraseInDisplay c))
+selector_value control.DECSCUSR n =
+    chosen_value (λ c. cursor (cursors.CursorStyle c)) (cursor_style_at n)
+selector_value control.ED n =
+    chosen_value (λ c. edit (edits.EraseInDisplay c)) (erase_in_display_at n)
+selector_value control.EL n = chosen_value (λ c. edit (edits.EraseInLine c)) (erase_in_line_at n)
+selector_value control.DECSED n = chosen_value (λ c. edit (edits.SelectiveEraseInDisplay c))
     (erase_in_display_at n)
-selected control.DECSEL n = chosen_value (λ c. edit (edits.SelectiveEraseInLine c))
+selector_value control.DECSEL n = chosen_value (λ c. edit (edits.SelectiveEraseInLine c))
     (erase_in_line_at n)
-selected _ n = other unfit.Untyped
+selector_value _ n = other unfit.Untyped
 
-abbrev pub flagged : ControlFunction → ℕ → ℕ → Value
-flagged control.KITTYSET a b = chosen_value (λ c. keyboard (keyboards.SetKittyState a c))
+abbrev pub flags_value : ControlFunction → ℕ → ℕ → Value
+flags_value control.KITTYSET a b = chosen_value (λ c. keyboard (keyboards.SetKittyState a c))
     (kitty_flags_change_at b)
-flagged _ a b = other unfit.Untyped
+flags_value _ a b = other unfit.Untyped
 
-abbrev pub reported : ControlFunction → ℕ → Ordinal → Ordinal → Value
-reported control.MOUSE a b c = mouse (mouses.Pressed a b c)
-reported control.MOUSEUP a b c = mouse (mouses.Released a b c)
-reported _ a b c = other unfit.Untyped
+abbrev pub report_value : ControlFunction → ℕ → Ordinal → Ordinal → Value
+report_value control.MOUSE a b c = mouse (mouses.Pressed a b c)
+report_value control.MOUSEUP a b c = mouse (mouses.Released a b c)
+report_value _ a b c = other unfit.Untyped
 
 abbrev pub window_value : Result Window Unfit → Value
 window_value (Ok w) = window w
 window_value (Err u) = other u
 
 -- a mode whose state is asked for
-abbrev pub asked : ModeStatus → Option ℕ → Option ℕ → Value
-asked s None None = mode_status s
-asked s None (Some c) = other unfit.TooMany
-asked s (Some b) c = other unfit.TooMany
+abbrev pub mode_value : ModeStatus → Option ℕ → Option ℕ → Value
+mode_value s None None = mode_status s
+mode_value s None (Some c) = other unfit.TooMany
+mode_value s (Some b) c = other unfit.TooMany
 
 -- the state of a mode, if nothing more is reported
 abbrev pub state_of : Option ℕ → Option ℕ → Result ModeState Unfit
@@ -254,25 +256,25 @@ abbrev pub stated_value : (ModeState → ModeStatus) → Result ModeState Unfit 
 stated_value f (Ok s) = mode_status (f s)
 stated_value f (Err u) = other u
 
-abbrev pub listed : ControlFunction → ℕ → Option ℕ → Option ℕ → Value
-listed control.XTWINOPS a b c = window_value (operation a b c)
-listed control.DECRQM_ANSI a b c = asked (statuses.QueryMode a) b c
-listed control.DECRQM a b c = asked (statuses.QueryDecPrivateMode a) b c
-listed control.DECRPM_ANSI a b c = stated_value (statuses.ReportMode a) (state_of b c)
-listed control.DECRPM a b c = stated_value (statuses.ReportDecPrivateMode a)
+abbrev pub list_value : ControlFunction → ℕ → Option ℕ → Option ℕ → Value
+list_value control.XTWINOPS a b c = window_value (operation a b c)
+list_value control.DECRQM_ANSI a b c = mode_value (statuses.QueryMode a) b c
+list_value control.DECRQM a b c = mode_value (statuses.QueryDecPrivateMode a) b c
+list_value control.DECRPM_ANSI a b c = stated_value (statuses.ReportMode a) (state_of b c)
+list_value control.DECRPM a b c = stated_value (statuses.ReportDecPrivateMode a)
     (state_of b c)
-listed _ a b c = other unfit.Untyped
+list_value _ a b c = other unfit.Untyped
 
 -- the value of a function with its parameters
-abbrev pub made : ControlFunction → Arguments → Value
-made f args.Nothing = bare f
-made f (args.Count n) = counted f n
-made f (args.Place l c) = placed f l c
-made f (args.Margins a b) = bounded f a b
-made f (args.Selector n) = selected f n
-made f (args.Flags a b) = flagged f a b
-made f (args.Report a b c) = reported f a b c
-made f (args.Numbers a b c) = listed f a b c
+abbrev pub value_with : ControlFunction → Arguments → Value
+value_with f args.Nothing = bare f
+value_with f (args.Count n) = count_value f n
+value_with f (args.Place l c) = place_value f l c
+value_with f (args.Margins a b) = margins_value f a b
+value_with f (args.Selector n) = selector_value f n
+value_with f (args.Flags a b) = flags_value f a b
+value_with f (args.Report a b c) = report_value f a b c
+value_with f (args.Numbers a b c) = list_value f a b c
 
 -- the operation on modes
 abbrev pub change_of : ControlFunction → ModeChange
@@ -284,7 +286,7 @@ change_of control.XTSAVE = change.SaveDecPrivateMode
 change_of _ = change.RestoreDecPrivateMode
 
 abbrev pub made_of : ControlFunction → Result Arguments Unfit → Value
-made_of f (Ok a) = made f a
+made_of f (Ok a) = value_with f a
 made_of f (Err u) = other u
 
 -- the operation on tab stops
@@ -294,7 +296,7 @@ tab_change_of _ = tab.Clear
 
 -- one choice, or several
 abbrev pub several : ControlFunction → List CsiParam → Result Arguments Unfit → Value
-several f es (Ok a) = made f a
+several f es (Ok a) = value_with f a
 several f es (Err unfit.TooMany) = tabs (tab_change_of f) (mode_numbers es)
 several f es (Err u) = other u
 

@@ -108,8 +108,8 @@ switched_off n = if n == 21 then Some (Underline underline.Double)
     else None
 
 -- those of 50 to 75
-abbrev pub decorated : ℕ → Option Rendition
-decorated n = if n == 50 then Some (Proportional false)
+abbrev pub decoration : ℕ → Option Rendition
+decoration n = if n == 50 then Some (Proportional false)
     else if n == 51 then Some (Frame frame.Framed)
     else if n == 52 then Some (Frame frame.Encircled)
     else if n == 53 then Some (Overline true)
@@ -128,27 +128,27 @@ decorated n = if n == 50 then Some (Proportional false)
     else None
 
 -- those of 30 to 49, but for 38 and 48, which have more after them
-abbrev pub painted : ℕ → Option Rendition
-painted n = if is_from 30 37 n then Some (AnsiForeground (ansi_color_at (n - 30)))
+abbrev pub color_rendition : ℕ → Option Rendition
+color_rendition n = if is_from 30 37 n then Some (AnsiForeground (ansi_color_at (n - 30)))
     else if n == 39 then Some (Foreground color.Default)
     else if is_from 40 47 n then Some (AnsiBackground (ansi_color_at (n - 40)))
     else if n == 49 then Some (Background color.Default)
     else None
 
 -- those of 90 to 107
-abbrev pub bright : ℕ → Option Rendition
-bright n = if is_from 90 97 n then Some (AnsiForeground (ansi_color_at (n - 82)))
+abbrev pub bright_color : ℕ → Option Rendition
+bright_color n = if is_from 90 97 n then Some (AnsiForeground (ansi_color_at (n - 82)))
     else if is_from 100 107 n then Some (AnsiBackground (ansi_color_at (n - 92)))
     else None
 
 -- the rendition of a number alone
-abbrev pub numbered : ℕ → Option Rendition
-numbered n = if nat_le n 9 then switched_on n
+abbrev pub number_rendition : ℕ → Option Rendition
+number_rendition n = if nat_le n 9 then switched_on n
     else if nat_le n 20 then Some (in_font (font_at (n - 10)))
     else if nat_le n 29 then switched_off n
-    else if nat_le n 49 then painted n
-    else if nat_le n 75 then decorated n
-    else bright n
+    else if nat_le n 49 then color_rendition n
+    else if nat_le n 75 then decoration n
+    else bright_color n
 
 -- the number of a colour, from the number of black on: the bright ones are 60 more
 abbrev pub ansi_number : ℕ → ℕ → ℕ

@@ -10,7 +10,7 @@ use Rattle.typed_functions.specs.declared.color_spec.ColorSpec.{ColorSpec}
 use Rattle.typed_functions.specs.declared.color_spec.ColorSpec.TheVariants as color
 use Rattle.typed_functions.specs.declared.rendition.Rendition.{Rendition}
 use Rattle.typed_functions.specs.declared.rendition.Rendition.TheVariants.{Reset, Underline, Foreground, Background, UnderlineColor}
-use Rattle.typed_functions.specs.Numbers.{numbered, number_of}
+use Rattle.typed_functions.specs.Numbers.{number_rendition, number_of}
 
 -- a number of at most 255
 abbrev pub byte_of : CsiParam → Option ℕ
@@ -36,8 +36,8 @@ at_end [] x = Some x
 at_end (e ∷ es) x = None
 
 -- `n` of the palette
-abbrev pub indexed : ℕ → List CsiParam → Option ColorSpec
-indexed s es = and_then (byte_after s es) (λ n. at_end n.1 (color.PaletteIndex n.0))
+abbrev pub indexed_color : ℕ → List CsiParam → Option ColorSpec
+indexed_color s es = and_then (byte_after s es) (λ n. at_end n.1 (color.PaletteIndex n.0))
 
 -- `r;g;b`, and the rest
 abbrev pub three : ℕ → List CsiParam → Option ((ℕ × ℕ × ℕ) × List CsiParam)
@@ -81,7 +81,7 @@ direct s es =
 -- the colour by the entries after 38, 48 or 58, with this separator: `5;n` or `2;r;g;b`
 abbrev pub color_with : ℕ → List CsiParam → Option ColorSpec
 color_with s es =
-    and_then (byte_after s es) (λ k. if k.0 == 5 then indexed s k.1
+    and_then (byte_after s es) (λ k. if k.0 == 5 then indexed_color s k.1
     else if k.0 == 2 then direct s k.1 else None)
 
 -- the same, with `;` or with `:`
@@ -108,8 +108,8 @@ underline_number underline.Dotted = 4
 underline_number underline.Dashed = 5
 
 -- the underline by the entries after 4
-abbrev pub underlined : List CsiParam → Option UnderlineKind
-underlined es =
+abbrev pub underline_kind : List CsiParam → Option UnderlineKind
+underline_kind es =
     and_then (byte_after 0x3a es) (λ k. and_then (at_end k.1 k.0) underline_at)
 
 -- 38, 48 and 58, which a colour follows
@@ -122,8 +122,8 @@ on_target n c = if n == 38 then Foreground c else if n == 48 then Background c
 
 -- the rendition of a number and the entries after it
 abbrev pub with_more : ℕ → List CsiParam → Option Rendition
-with_more n [] = numbered n
-with_more n (m ∷ es) = if n == 4 then option_map Underline (underlined (m ∷ es))
+with_more n [] = number_rendition n
+with_more n (m ∷ es) = if n == 4 then option_map Underline (underline_kind (m ∷ es))
     else if is_target n then option_map (on_target n) (color_of (m ∷ es))
     else None
 

@@ -99,8 +99,8 @@ abbrev pub left_with : {X : Type 0} → (List CsiParam → ℕ) → (List CsiPar
 left_with s f None = []
 left_with s f (Some es) = map f (cut_with s es)
 
-abbrev pub left : Renditions → List (Option Rendition × List CsiParam)
-left s = left_with separators selection_of (option_map (λ es. es.now) s.rest)
+abbrev pub renditions_left : Renditions → List (Option Rendition × List CsiParam)
+renditions_left s = left_with separators selection_of (option_map (λ es. es.now) s.rest)
 
 -- the number of a mode, if a parameter is one, and its entries
 abbrev pub mode_number : List CsiParam → Option ℕ

@@ -36,8 +36,9 @@ plain a last = record { prefix = None; arguments = a; intermediate = None; last 
 abbrev pub private : ℕ → Arguments → ℕ → Spelling
 private p a last = record { prefix = Some p; arguments = a; intermediate = None; last = last }
 
-abbrev pub between : Arguments → ℕ → ℕ → Spelling
-between a i last = record { prefix = None; arguments = a; intermediate = Some i; last = last }
+abbrev pub intermediate_spelling : Arguments → ℕ → ℕ → Spelling
+intermediate_spelling a i last =
+    record { prefix = None; arguments = a; intermediate = Some i; last = last }
 
 abbrev pub private_between : ℕ → Arguments → ℕ → ℕ → Spelling
 private_between p a i last =
@@ -66,7 +67,8 @@ cursor_spelling (cursor.ActivePositionReport a b) = plain (args.Place a b) 0x52
 cursor_spelling (cursor.TabulationClear c) = plain (args.Selector (tabulation_clear_number c)) 0x67
 cursor_spelling (cursor.TabulationControl c) = plain (args.Selector
     (cursor_tabulation_control_number c)) 0x57
-cursor_spelling (cursor.CursorStyle c) = between (args.Selector (cursor_style_number c)) 0x20 0x71
+cursor_spelling (cursor.CursorStyle c) =
+    intermediate_spelling (args.Selector (cursor_style_number c)) 0x20 0x71
 cursor_spelling (cursor.SetTopAndBottomMargins a b) = plain (args.Margins a b) 0x72
 cursor_spelling (cursor.SetLeftAndRightMargins a b) = plain (args.Margins a b) 0x73
 cursor_spelling cursor.SaveCursor = plain args.Nothing 0x73
@@ -79,7 +81,7 @@ device_spelling device.RequestSecondaryDeviceAttributes = private 0x3e args.Noth
 device_spelling device.RequestTertiaryDeviceAttributes = private 0x3d args.Nothing 0x63
 device_spelling device.RequestTerminalNameAndVersion = private 0x3e args.Nothing 0x71
 device_spelling device.StatusReport = plain (args.Selector 5) 0x6e
-device_spelling device.SoftReset = between args.Nothing 0x21 0x70
+device_spelling device.SoftReset = intermediate_spelling args.Nothing 0x21 0x70
 
 abbrev pub edit_spelling : Edit → Spelling
 edit_spelling (edit.InsertCharacter n) = plain (args.Count n) 0x40
@@ -90,10 +92,10 @@ edit_spelling (edit.ScrollUp n) = plain (args.Count n) 0x53
 edit_spelling (edit.ScrollDown n) = plain (args.Count n) 0x54
 edit_spelling (edit.EraseCharacter n) = plain (args.Count n) 0x58
 edit_spelling (edit.Repeat n) = plain (args.Count n) 0x62
-edit_spelling (edit.ScrollLeft n) = between (args.Count n) 0x20 0x40
-edit_spelling (edit.ScrollRight n) = between (args.Count n) 0x20 0x41
-edit_spelling (edit.InsertColumn n) = between (args.Count n) 0x27 0x7d
-edit_spelling (edit.DeleteColumn n) = between (args.Count n) 0x27 0x7e
+edit_spelling (edit.ScrollLeft n) = intermediate_spelling (args.Count n) 0x20 0x40
+edit_spelling (edit.ScrollRight n) = intermediate_spelling (args.Count n) 0x20 0x41
+edit_spelling (edit.InsertColumn n) = intermediate_spelling (args.Count n) 0x27 0x7d
+edit_spelling (edit.DeleteColumn n) = intermediate_spelling (args.Count n) 0x27 0x7e
 edit_spelling (edit.EraseInDisplay c) = plain (args.Selector (erase_in_display_number c)) 0x4a
 edit_spelling (edit.EraseInLine c) = plain (args.Selector (erase_in_line_number c)) 0x4b
 edit_spelling (edit.SelectiveEraseInDisplay c) = private 0x3f (args.Selector
@@ -154,10 +156,12 @@ abbrev pub window_spelling : Window → Spelling
 window_spelling w = plain (window_numbers w) 0x74
 
 abbrev pub mode_status_spelling : ModeStatus → Spelling
-mode_status_spelling (mode_status.QueryMode m) = between (args.Numbers m None None) 0x24 0x70
+mode_status_spelling (mode_status.QueryMode m) =
+    intermediate_spelling (args.Numbers m None None) 0x24 0x70
 mode_status_spelling (mode_status.QueryDecPrivateMode m) = private_between 0x3f (args.Numbers m None
     None) 0x24 0x70
-mode_status_spelling (mode_status.ReportMode m s) = between (args.Numbers m (Some (mode_state_number
+mode_status_spelling (mode_status.ReportMode m s) =
+    intermediate_spelling (args.Numbers m (Some (mode_state_number
     s)) None) 0x24 0x79
 mode_status_spelling (mode_status.ReportDecPrivateMode m s) = private_between 0x3f (args.Numbers m
     (Some (mode_state_number s)) None) 0x24 0x79

@@ -2,7 +2,7 @@
 ghost use Rattle.std.specs.Prelude.{◌≡◌, Some, None, IfNone, IfSome};
 ghost use Rattle.std.specs.Fmt.{DisplaysOnOk};
 ghost use Rattle.esc_values.specs.Params.{csi_params_text};
-ghost use Rattle.typed_functions.specs.Renditions.{after_field, after_number, at_end, bare_direct, color_entries, color_of, color_with, direct, direct_in_space, indexed, three};
+ghost use Rattle.typed_functions.specs.Renditions.{after_field, after_number, at_end, bare_direct, color_entries, color_of, color_with, direct, direct_in_space, indexed_color, three};
 
 use crate::color_spec::ColorSpec;
 use crate::entries::{byte_after, is_byte, write_entries};
@@ -34,7 +34,7 @@ fn color_with(separator: u8, entries: &[CsiParam]) -> Option<ColorSpec>
 
 // Returns an entry of the palette.
 fn indexed(separator: u8, entries: &[CsiParam]) -> Option<ColorSpec>
-    ensures { result ≡ indexed separator entries.now }
+    ensures { result ≡ indexed_color separator entries.now }
 {
     let Some((index, rest)) = byte_after(separator, entries) else {
         return None;

@@ -1,7 +1,7 @@
 //! The request of an escape sequence, by its function and its final byte.
 ghost use Rattle.std.specs.Prelude.{◌≡◌, Some};
 ghost use Rattle.typed_functions.specs.Charsets.{short_at};
-ghost use Rattle.typed_functions.specs.Escapes.{designated, designated_by_two, multibyte_designated, of_function, of_two};
+ghost use Rattle.typed_functions.specs.Escapes.{charset_by_final, designated_by_two, multibyte_designated, of_function, of_two};
 ghost use Rattle.typed_functions.specs.Functions.{value_of};
 
 use crate::charset::Charset;
@@ -29,7 +29,7 @@ pub(crate) fn of_function<'a>(function: EscapeFunction, last: u8) -> Function<'a
 
 // Returns the set that it designates.
 fn designated(function: EscapeFunction, last: u8) -> Result<Charset, Unfit>
-    ensures { result ≡ designated function last }
+    ensures { result ≡ charset_by_final function last }
 {
     match function {
         EscapeFunction::GZD4 => match Charset94::of_final_byte(last) {

@@ -3,7 +3,7 @@ ghost use Rattle.std.specs.Prelude.{◌≡◌, Some};
 ghost use Rattle.esc_sequences.specs.Csis.{csi_value};
 ghost use Rattle.typed_functions.specs.Arguments.{arguments};
 ghost use Rattle.typed_functions.specs.Escapes.{of_bytes, of_c1, of_escape, of_intermediates};
-ghost use Rattle.typed_functions.specs.Functions.{known_entries, made, of_csi, of_kept, of_named, of_params, several, value_of};
+ghost use Rattle.typed_functions.specs.Functions.{known_entries, value_with, of_csi, of_kept, of_named, of_params, several, value_of};
 
 use crate::arguments::{Arguments, Kind};
 use crate::charset::Charset;
@@ -197,7 +197,7 @@ fn several(function: ControlFunction, params: &[CsiParam]) -> Function<'_>
 
 // Returns the value of a function with these parameters.
 fn made<'a>(function: ControlFunction, arguments: Arguments) -> Function<'a>
-    ensures { value_of result ≡ made function arguments }
+    ensures { value_of result ≡ value_with function arguments }
 {
     match arguments {
         Arguments::Nothing => bare(function),

@@ -1,6 +1,6 @@
 //! The renditions that are one number.
 ghost use Rattle.std.specs.Prelude.{◌≡◌, ◌≤◌, Some, None};
-ghost use Rattle.typed_functions.specs.Numbers.{ansi_color_number, ansi_number, bright, decorated, number_of, numbered, painted, switched_off, switched_on};
+ghost use Rattle.typed_functions.specs.Numbers.{ansi_color_number, ansi_number, bright_color, decoration, number_of, number_rendition, color_rendition, switched_off, switched_on};
 
 use crate::ansi_color::AnsiColor;
 use crate::blink::Blink;
@@ -14,7 +14,7 @@ use esc_sequences::{Intensity, Underline};
 
 // Returns the rendition of a number alone.
 pub(crate) fn numbered(number: u8) -> Option<Rendition>
-    ensures { result ≡ numbered number }
+    ensures { result ≡ number_rendition number }
 {
     match number {
         0..=9 => switched_on(number),
@@ -65,7 +65,7 @@ fn switched_off(number: u8) -> Option<Rendition>
 
 // Returns the rendition of a number from 50 to 75.
 fn decorated(number: u8) -> Option<Rendition>
-    ensures { result ≡ decorated number }
+    ensures { result ≡ decoration number }
 {
     match number {
         50 => Some(Rendition::Proportional(false)),
@@ -90,7 +90,7 @@ fn decorated(number: u8) -> Option<Rendition>
 
 // Returns the rendition of a number from 30 to 49 but 38 and 48, which more follows.
 fn painted(number: u8) -> Option<Rendition>
-    ensures { result ≡ painted number }
+    ensures { result ≡ color_rendition number }
 {
     match number {
         30..=37 => Some(Rendition::AnsiForeground(AnsiColor::at(number - 30))),
@@ -103,7 +103,7 @@ fn painted(number: u8) -> Option<Rendition>
 
 // Returns the rendition of a number from 90 to 107.
 fn bright(number: u8) -> Option<Rendition>
-    ensures { result ≡ bright number }
+    ensures { result ≡ bright_color number }
 {
     match number {
         90..=97 => Some(Rendition::AnsiForeground(AnsiColor::at(number - 82))),

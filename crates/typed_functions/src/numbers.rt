@@ -2,7 +2,7 @@
 ghost use Rattle.std.specs.Prelude.{◌≡◌, Some, Ok, Err, IfOk, IfErr};
 ghost use Rattle.std.specs.Option.{option_map};
 ghost use Rattle.std.specs.List.{list_all};
-ghost use Rattle.typed_functions.specs.Arguments.{after_prefix, arguments, byte_or, count, first_word, flags, report, three, is_intermediate, last_of, margins, more, more_words, next, no_number, number_first, one, place, selector, two, word, word_of, zero};
+ghost use Rattle.typed_functions.specs.Arguments.{after_prefix, arguments, byte_or, count, first_word, flags, report, three, is_intermediate, last_of, margins, more, more_words, next, no_number, number_first, only_parameter, place, selector, two, word, word_of, zero};
 
 use crate::arguments::{Arguments, Kind};
 use crate::one_based::Ordinal;
@@ -220,7 +220,7 @@ fn three(entries: &[CsiParam]) -> Result<(Option<u64>, Option<u64>, Option<u64>)
 
 // Returns the only parameter.
 fn one(entries: &[CsiParam]) -> Result<Option<u64>, Unfit>
-    ensures { result ≡ one entries.now }
+    ensures { result ≡ only_parameter entries.now }
 {
     let (number, rest) = next(entries)?;
     match rest {

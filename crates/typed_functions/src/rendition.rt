@@ -3,7 +3,7 @@
 ghost use Rattle.std.specs.Prelude.{◌≡◌, Some, None};
 ghost use Rattle.std.specs.Fmt.{DisplaysOnOk};
 ghost use Rattle.esc_values.specs.Params.{csi_params_text};
-ghost use Rattle.typed_functions.specs.Renditions.{is_target, more_entries, normal_params, on_target, rendition_of, underline_at, underline_number, underlined, with_more};
+ghost use Rattle.typed_functions.specs.Renditions.{is_target, more_entries, normal_params, on_target, rendition_of, underline_at, underline_number, underline_kind, with_more};
 
 use crate::ansi_color::AnsiColor;
 use crate::blink::Blink;
@@ -125,7 +125,7 @@ fn on_target(number: u8, color: ColorSpec) -> Rendition
 
 // Returns the underline by the entries after 4.
 fn underlined(entries: &[CsiParam]) -> Option<Underline>
-    ensures { result ≡ underlined entries.now }
+    ensures { result ≡ underline_kind entries.now }
 {
     let Some((kind, rest)) = byte_after(b':', entries) else {
         return None;

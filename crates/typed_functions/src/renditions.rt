@@ -1,7 +1,7 @@
 //! The iterator over renditions.
 ghost use Rattle.std.specs.Prelude.{◌≡◌, ◌≤◌, ◌+◌, ◌==◌, length, drop, if◌then◌else◌, Some, None};
 ghost use Rattle.std.specs.Option.{option_map};
-ghost use Rattle.typed_functions.specs.Selections.{color_separators, first_len, left, len_before, more_separators, selections, separators};
+ghost use Rattle.typed_functions.specs.Selections.{color_separators, first_len, renditions_left, len_before, more_separators, selections, separators};
 
 use crate::entries::{byte_of, is_byte};
 use crate::rendition::{Rendition, is_target};
@@ -24,7 +24,7 @@ pub struct Renditions<'a> {
 impl<'a> Renditions<'a> {
     /// Returns the renditions of these parameters.
     pub fn new(params: &'a [CsiParam]) -> Self
-        ensures { left result ≡ selections params.now }
+        ensures { renditions_left result ≡ selections params.now }
     {
         Renditions { rest: Some(params) }
     }
@@ -32,13 +32,13 @@ impl<'a> Renditions<'a> {
 
 impl<'a> Iterator for Renditions<'a> {
     ghost use Rattle.std.specs.Iterator.{YieldsFirstBy, item_count};
-    ghost use Rattle.typed_functions.specs.Selections.{left, seen_item};
+    ghost use Rattle.typed_functions.specs.Selections.{renditions_left, seen_item};
 
     type Item = Selection<'a>;
 
-    ghost next_gives = { YieldsFirstBy seen_item left };
+    ghost next_gives = { YieldsFirstBy seen_item renditions_left };
 
-    ghost remaining = { item_count left };
+    ghost remaining = { item_count renditions_left };
 
     fn next(&mut self) -> Option<Selection<'a>> {
         let Some(entries) = self.rest else {

@@ -6,7 +6,7 @@ ghost use Rattle.esc_sequences.specs.Csis.{csi_text, unspecified};
 ghost use Rattle.typed_functions.specs.Arguments.{count_entries, entries_of, last_entries, more_entries};
 ghost use Rattle.typed_functions.specs.Counts.{one_based};
 ghost use Rattle.typed_functions.specs.Renditions.{number};
-ghost use Rattle.typed_functions.specs.Spellings.{between, entries, mark_entries, plain, private, private_between};
+ghost use Rattle.typed_functions.specs.Spellings.{intermediate_spelling, entries, mark_entries, plain, private, private_between};
 
 use crate::arguments::Arguments;
 use crate::entries::write_entries;
@@ -50,7 +50,7 @@ impl Spelling {
 
     // Returns a spelling with an intermediate.
     pub(crate) fn between(arguments: Arguments, intermediate: u8, last: u8) -> Spelling
-        ensures { result ≡ between arguments intermediate last }
+        ensures { result ≡ intermediate_spelling arguments intermediate last }
     {
         Spelling {
             prefix: None,

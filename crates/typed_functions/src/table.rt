@@ -1,6 +1,6 @@
 //! The tables of typed values: the value that a control function makes of its parameters.
 ghost use Rattle.std.specs.Prelude.{◌≡◌};
-ghost use Rattle.typed_functions.specs.Functions.{asked, bare, bounded, change_of, counted, flagged, kind_of, listed, placed, reported, selected, state_of, tab_change_of, value_of};
+ghost use Rattle.typed_functions.specs.Functions.{mode_value, bare, margins_value, change_of, count_value, flags_value, kind_of, list_value, place_value, report_value, selector_value, state_of, tab_change_of, value_of};
 
 use crate::arguments::Kind;
 use crate::cursor::Cursor;
@@ -113,7 +113,7 @@ pub(crate) fn bare<'a>(function: ControlFunction) -> Function<'a>
 
 // Functions with a count, a line or a column.
 pub(crate) fn counted<'a>(function: ControlFunction, n: Ordinal) -> Function<'a>
-    ensures { value_of result ≡ counted function n }
+    ensures { value_of result ≡ count_value function n }
 {
     match function {
         ControlFunction::CUU => Function::Cursor(Cursor::Up(n)),
@@ -151,7 +151,7 @@ pub(crate) fn counted<'a>(function: ControlFunction, n: Ordinal) -> Function<'a>
 
 // Functions with a line and a column.
 pub(crate) fn placed<'a>(function: ControlFunction, a: Ordinal, b: Ordinal) -> Function<'a>
-    ensures { value_of result ≡ placed function a b }
+    ensures { value_of result ≡ place_value function a b }
 {
     match function {
         ControlFunction::CUP => Function::Cursor(Cursor::Position { line: a, col: b }),
@@ -166,7 +166,7 @@ pub(crate) fn placed<'a>(function: ControlFunction, a: Ordinal, b: Ordinal) -> F
 
 // Functions with a first and a last line or column.
 pub(crate) fn bounded<'a>(function: ControlFunction, a: Ordinal, b: Option<Ordinal>) -> Function<'a>
-    ensures { value_of result ≡ bounded function a b }
+    ensures { value_of result ≡ margins_value function a b }
 {
     match function {
         ControlFunction::DECSTBM => Function::Cursor(Cursor::SetTopAndBottomMargins {
@@ -183,7 +183,7 @@ pub(crate) fn bounded<'a>(function: ControlFunction, a: Ordinal, b: Option<Ordin
 
 // Functions with a choice.
 pub(crate) fn selected<'a>(function: ControlFunction, n: u8) -> Function<'a>
-    ensures { value_of result ≡ selected function n }
+    ensures { value_of result ≡ selector_value function n }
 {
     match function {
         ControlFunction::DSR => status_asked(n),
@@ -222,7 +222,7 @@ pub(crate) fn selected<'a>(function: ControlFunction, n: u8) -> Function<'a>
 
 // Functions with flags and the operation on them.
 pub(crate) fn flagged<'a>(function: ControlFunction, a: u8, b: u8) -> Function<'a>
-    ensures { value_of result ≡ flagged function a b }
+    ensures { value_of result ≡ flags_value function a b }
 {
     match function {
         ControlFunction::KITTYSET => match KittyFlagsChange::of_number(b) {
@@ -235,7 +235,7 @@ pub(crate) fn flagged<'a>(function: ControlFunction, a: u8, b: u8) -> Function<'
 
 // Reports of the mouse.
 pub(crate) fn reported<'a>(function: ControlFunction, a: u8, b: Ordinal, c: Ordinal) -> Function<'a>
-    ensures { value_of result ≡ reported function a b c }
+    ensures { value_of result ≡ report_value function a b c }
 {
     match function {
         ControlFunction::MOUSE => Function::Mouse(Mouse::Pressed {
@@ -259,7 +259,7 @@ pub(crate) fn listed<'a>(
     b: Option<u32>,
     c: Option<u32>,
 ) -> Function<'a>
-    ensures { value_of result ≡ listed function a b c }
+    ensures { value_of result ≡ list_value function a b c }
 {
     match function {
         ControlFunction::XTWINOPS => match operation(a, b, c) {
@@ -282,7 +282,7 @@ pub(crate) fn listed<'a>(
 
 // Returns a mode whose state is asked for, which no more numbers follow.
 fn asked<'a>(status: ModeStatus, b: Option<u32>, c: Option<u32>) -> Function<'a>
-    ensures { value_of result ≡ asked status b c }
+    ensures { value_of result ≡ mode_value status b c }
 {
     match (b, c) {
         (None, None) => Function::ModeStatus(status),
@@ -306,7 +306,7 @@ fn state_of(b: Option<u32>, c: Option<u32>) -> Result<ModeState, Unfit>
 
 // Returns which report is asked for, by its number.
 fn status_asked<'a>(n: u8) -> Function<'a>
-    ensures { value_of result ≡ selected ControlFunction.DSR n }
+    ensures { value_of result ≡ selector_value ControlFunction.DSR n }
 {
     match n {
         5 => Function::Device(Device::StatusReport),

@@ -1,6 +1,6 @@
 //! The request of a control sequence of the window, by its numbers.
 ghost use Rattle.std.specs.Prelude.{◌≡◌};
-ghost use Rattle.typed_functions.specs.Windows.{alone, filled, lowered, maximized, moved, operation, operation_below, placed, popped, popped_title, pushed, pushed_title, raised, reports, sized};
+ghost use Rattle.typed_functions.specs.Windows.{lone_window, window_fill, window_lower, window_maximize, window_move, operation, operation_below, window_place, title_pop, popped_title, title_push, pushed_title, window_raise, reports, window_size};
 
 use crate::unfit::Unfit;
 use crate::window::Window;
@@ -63,7 +63,7 @@ fn reports(number: u32, a: Option<u32>, b: Option<u32>) -> Result<Window, Unfit>
 
 // Returns an operation that takes no more numbers.
 fn alone(window: Window, a: Option<u32>, b: Option<u32>) -> Result<Window, Unfit>
-    ensures { result ≡ alone window a b }
+    ensures { result ≡ lone_window window a b }
 {
     match (a, b) {
         (None, None) => Ok(window),
@@ -73,7 +73,7 @@ fn alone(window: Window, a: Option<u32>, b: Option<u32>) -> Result<Window, Unfit
 
 // 3, and a place.
 fn moved(x: Option<u32>, y: Option<u32>) -> Result<Window, Unfit>
-    ensures { result ≡ moved x y }
+    ensures { result ≡ window_move x y }
 {
     match (x, y) {
         (Some(x), Some(y)) => Ok(Window::MoveWindow { x, y }),
@@ -83,7 +83,7 @@ fn moved(x: Option<u32>, y: Option<u32>) -> Result<Window, Unfit>
 
 // 5, alone or before the size of the screen.
 fn raised(height: Option<u32>, width: Option<u32>) -> Result<Window, Unfit>
-    ensures { result ≡ raised height width }
+    ensures { result ≡ window_raise height width }
 {
     match (height, width) {
         (None, None) => Ok(Window::RaiseWindow),
@@ -94,7 +94,7 @@ fn raised(height: Option<u32>, width: Option<u32>) -> Result<Window, Unfit>
 
 // 6, alone or before the size of a cell.
 fn lowered(height: Option<u32>, width: Option<u32>) -> Result<Window, Unfit>
-    ensures { result ≡ lowered height width }
+    ensures { result ≡ window_lower height width }
 {
     match (height, width) {
         (None, None) => Ok(Window::LowerWindow),
@@ -105,7 +105,7 @@ fn lowered(height: Option<u32>, width: Option<u32>) -> Result<Window, Unfit>
 
 // 9, before a choice or the size of the screen.
 fn maximized(a: Option<u32>, b: Option<u32>) -> Result<Window, Unfit>
-    ensures { result ≡ maximized a b }
+    ensures { result ≡ window_maximize a b }
 {
     match (a, b) {
         (Some(height), Some(width)) => Ok(Window::ReportScreenSizeCellsResponse { height, width }),
@@ -120,7 +120,7 @@ fn maximized(a: Option<u32>, b: Option<u32>) -> Result<Window, Unfit>
 
 // 10, and a choice.
 fn filled(a: Option<u32>, b: Option<u32>) -> Result<Window, Unfit>
-    ensures { result ≡ filled a b }
+    ensures { result ≡ window_fill a b }
 {
     match (a, b) {
         (_, Some(_)) => Err(Unfit::TooMany),
@@ -134,7 +134,7 @@ fn filled(a: Option<u32>, b: Option<u32>) -> Result<Window, Unfit>
 
 // 13, alone or before 2.
 fn placed(a: Option<u32>, b: Option<u32>) -> Result<Window, Unfit>
-    ensures { result ≡ placed a b }
+    ensures { result ≡ window_place a b }
 {
     match (a, b) {
         (_, Some(_)) => Err(Unfit::TooMany),
@@ -146,7 +146,7 @@ fn placed(a: Option<u32>, b: Option<u32>) -> Result<Window, Unfit>
 
 // 14, alone or before 2.
 fn sized(a: Option<u32>, b: Option<u32>) -> Result<Window, Unfit>
-    ensures { result ≡ sized a b }
+    ensures { result ≡ window_size a b }
 {
     match (a, b) {
         (_, Some(_)) => Err(Unfit::TooMany),
@@ -158,7 +158,7 @@ fn sized(a: Option<u32>, b: Option<u32>) -> Result<Window, Unfit>
 
 // 22, and a choice; after it there may be 0.
 fn pushed(a: Option<u32>, b: Option<u32>) -> Result<Window, Unfit>
-    ensures { result ≡ pushed a b }
+    ensures { result ≡ title_push a b }
 {
     match (a, b) {
         (None, _) => Err(Unfit::TooFew),
@@ -180,7 +180,7 @@ fn pushed_title(title: u32) -> Result<Window, Unfit>
 
 // 23, and a choice; after it there may be 0.
 fn popped(a: Option<u32>, b: Option<u32>) -> Result<Window, Unfit>
-    ensures { result ≡ popped a b }
+    ensures { result ≡ title_pop a b }
 {
     match (a, b) {
         (None, _) => Err(Unfit::TooFew),

@@ -24,7 +24,7 @@ use Rattle.esc_filter.specs.Lines.{body, closed_by_lines_as, content, end_text, 
 use Rattle.esc_filter.specs.Passing.{closed_text_as, in_lines, is_line_feed, is_whole, passed_values, passed_as, passed_text_as, passes}
 use Rattle.esc_filter.specs.Tokens.{AdmitsAtMost, IsOfTokens}
 use Rattle.esc_filter.specs.Rules.{admits, is_color, is_layout, is_link, is_plain_param, is_rendition, is_shown, is_text}
-use Rattle.esc_filter.specs.Terminal.{unchanged}
+use Rattle.esc_filter.specs.Terminal.{as_at_start}
 use Rattle.esc_filter.specs.declared.policy.Policy.TheVariants as policy
 use Rattle.esc_filter.specs.declared.terminal.Terminal.{Terminal}
 use Rattle.esc_filter.specs.declared.guard.Guard.{Guard}
@@ -115,10 +115,10 @@ module _ (A : Type 0) (k : Bool) where
 
 -- a rendition and a link alone
 abbrev tinted : Bool → Bool → Terminal
-tinted r l = record unchanged { rendition = r; link = l }
+tinted r l = record as_at_start { rendition = r; link = l }
 
 abbrev IsTinted : Bool → Terminal → Type 0
-IsTinted false t = t ≡ unchanged
+IsTinted false t = t ≡ as_at_start
 IsTinted true t = (r : Bool) × (l : Bool) × (t ≡ tinted r l)
 
 layout_stays : (c : ControlCode) (t : Terminal) → is_layout (code_number c) ≡ true
@@ -204,7 +204,7 @@ values_tint k (v ∷ vs) t h e =
     let q = and_parts (admits (least k) v) (list_all (admits (least k)) vs) h in
     values_tint k vs (after_value v t) q.1 (value_tints k v t q.0 e)
 
-at_first : (k : Bool) → IsTinted k unchanged
+at_first : (k : Bool) → IsTinted k as_at_start
 at_first false = refl
 at_first true = (false, false, refl)
 
@@ -225,8 +225,8 @@ back_least A true b t (r, l, e) =
 closing_least : {A : Type 0} (k : Bool) (f : Value A → Bool) (vs : List (Value A))
     → list_all (admits (least k)) vs ≡ true → list_all (admits (least k)) (closing f vs) ≡ true
 closing_least {A} k f vs h =
-    back_least A k (keeps_cursor f) (after_values vs unchanged)
-    (values_tint k vs unchanged h (at_first k))
+    back_least A k (keeps_cursor f) (after_values vs as_at_start)
+    (values_tint k vs as_at_start h (at_first k))
 
 closed_least : {A : Type 0} (k : Bool) (f : Value A → Bool) (vs : List (Value A))
     → list_all (admits (least k)) vs ≡ true → list_all (admits (least k)) (closed_values f vs)

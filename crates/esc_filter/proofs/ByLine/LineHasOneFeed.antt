@@ -30,7 +30,7 @@ use Rattle.esc_filter.specs.declared.returns.Returns.TheVariants as way
 use Rattle.esc_filter.specs.declared.unicode.Unicode.{Unicode}
 use Rattle.esc_filter.specs.declared.unicode.Unicode.TheVariants.{Drop, Join, Keep, Show}
 use Rattle.esc_filter.specs.Closing.{after_values, closed_values, closing, give, given_back, keeps_cursor, main_by, margins_back, saved_by, screen_back, states_back, without_margins}
-use Rattle.esc_filter.specs.Terminal.{is_changed_saved, unchanged}
+use Rattle.esc_filter.specs.Terminal.{is_changed_saved, as_at_start}
 use Rattle.esc_filter.specs.declared.terminal.Screen.{Screen}
 use Rattle.esc_filter.specs.declared.terminal.Screen.TheVariants as screen
 use Rattle.esc_filter.specs.declared.terminal.Terminal.{Terminal}
@@ -255,7 +255,7 @@ module _ {A : Type 0} (means : MeansItsCut A)
       (texts (closed_values admits vs) (has_ended u (Some limit) (in_lines true admits) m)
       (both is_fine vs (closing admits vs)
       (line_fine m (inl (body x, body_feeds x none, refl)))
-      (back_fine A (keeps_cursor admits) (after_values vs unchanged)))))
+      (back_fine A (keeps_cursor admits) (after_values vs as_at_start)))))
     where
       either : Bool → List ℕ → List ℕ
       either t l =
@@ -287,7 +287,7 @@ module _ {A : Type 0} (means : MeansItsCut A)
       (passed_of_line {A = A} u limit admits r)))) (last_open l none)
       ∙ texts (closed_values admits vs) (has_ended u (Some limit) (in_lines true admits) l)
       (both is_fine vs (closing admits vs) (line_fine l (inr none))
-      (back_fine A (keeps_cursor admits) (after_values vs unchanged)))
+      (back_fine A (keeps_cursor admits) (after_values vs as_at_start)))
 
   pub lines_are : (s : List ℕ) → lines (text_by_lines_as {A = A} u limit admits s)
       ≡ filter (λ t. not (is_empty t)) (map (line_text {A = A} u limit admits) (lines s))

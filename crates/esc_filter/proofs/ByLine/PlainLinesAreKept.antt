@@ -31,7 +31,7 @@ use Rattle.esc_values.specs.declared.csi_param.CsiParam.{CsiParam}
 use Rattle.esc_sequences.specs.Csis.{CsiValue, csi_of, sgr, unspecified}
 use Rattle.esc_filter.specs.Characters.{character_of, in_guard, in_values, in_values_after, last_after}
 use Rattle.esc_filter.specs.Closing.{after_values, closing, given_back, keeps_cursor, turned_terminal}
-use Rattle.esc_filter.specs.Terminal.{unchanged}
+use Rattle.esc_filter.specs.Terminal.{as_at_start}
 use Rattle.esc_filter.specs.Pens.{pen_after, start_pen}
 use Rattle.esc_filter.specs.declared.terminal.Terminal.{Terminal}
 use Rattle.esc_filter.specs.Fed.{HasConsumedIn}
@@ -207,15 +207,15 @@ module _ (A : Type 0) (u : Guard) (limit : ℕ) (admits : Value A → Bool)
 
   abbrev pub Line : List ℕ → Bool → Type 0
   Line x on = (vs : List (Value A)) × Passed x vs
-      × (after_values vs unchanged ≡ turned_terminal on unchanged)
+      × (after_values vs as_at_start ≡ turned_terminal on as_at_start)
 
   longer : {x y : List ℕ} {ws : List (Value A)} {on lit : Bool} → Line x on → Passed y ws
-      → after_values ws (turned_terminal on unchanged) ≡ turned_terminal lit unchanged
+      → after_values ws (turned_terminal on as_at_start) ≡ turned_terminal lit as_at_start
       → Line (x ++ y) lit
   longer {ws = ws} (vs, p, left) q leaves = (
     vs ++ ws,
     joined p q,
-    after_more vs ws unchanged ∙ ap (after_values ws) left ∙ leaves,
+    after_more vs ws as_at_start ∙ ap (after_values ws) left ∙ leaves,
   )
 
   abbrev pub By : List ℕ → List ℕ
@@ -330,7 +330,7 @@ module _ (A : Type 0) (u : Guard) (limit : ℕ) (admits : Value A → Bool)
   }
 
   pub begun_more : {on lit : Bool} (s y : List ℕ) {ws : List (Value A)} → Begun on s → Passed y ws
-      → after_values ws (turned_terminal on unchanged) ≡ turned_terminal lit unchanged
+      → after_values ws (turned_terminal on as_at_start) ≡ turned_terminal lit as_at_start
       → Begun lit (s ++ y)
   begun_more s y b q leaves = record {
     ended = b.ended;

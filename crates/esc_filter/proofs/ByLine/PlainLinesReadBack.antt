@@ -10,7 +10,7 @@ use Rattle.esc_frame.proofs.ByteRuns.CsiRuns.{run_joins}
 use Rattle.esc_frame.proofs.ByteRuns.ManyBytes.{run_passes}
 use Rattle.esc_actions.specs.Values.{Value, mode_after, print}
 use Rattle.esc_filter.specs.Closing.{turned_terminal}
-use Rattle.esc_filter.specs.Terminal.{unchanged}
+use Rattle.esc_filter.specs.Terminal.{as_at_start}
 use Rattle.esc_filter.specs.Known.{ArePassedRenditions, IsPassedText}
 use Rattle.esc_filter.specs.Openings.{ArePlainLines}
 use Rattle.esc_filter.specs.Lines.{AreWide, IsShortRendition, held, is_wide}
@@ -43,7 +43,7 @@ module _ (A : Type 0) (r : Bool) where
         λ u limit admits texts all.
             begun_more A u limit admits texts (take i s) y (begun u limit admits texts all)
             (run A u limit admits texts y bytes)
-            (run_leaves A u limit admits texts y (turned_terminal on unchanged)),
+            (run_leaves A u limit admits texts y (turned_terminal on as_at_start)),
       )
 
   next : (s : List ℕ) (i b : ℕ) → i < length s → get_or s i 0 ≡ b
@@ -114,7 +114,7 @@ module _ (A : Type 0) (r : Bool) where
       begun_more A u limit admits texts x y begun
       (subst (λ z. Passed A u limit admits texts z (map print cs)) is
       (wides A u limit admits texts cs wide))
-      (run_leaves A u limit admits texts cs (turned_terminal on unchanged))
+      (run_leaves A u limit admits texts cs (turned_terminal on as_at_start))
 
   wide_utf8 : (y cs : List ℕ) → list_all is_wide cs ≡ true → encode_utf8_all cs ≡ y → IsUtf8 y
   wide_utf8 y cs wide is = subst IsUtf8 is (all_utf8 cs wide)
@@ -143,5 +143,5 @@ module _ (A : Type 0) (r : Bool) where
         λ u limit admits texts all.
             begun_more A u limit admits texts (take i s) y (begun u limit admits texts all)
             (rendition A u limit admits texts (all known) shade)
-            (shade.turns (turned_terminal on unchanged)),
+            (shade.turns (turned_terminal on as_at_start)),
       )

@@ -22,7 +22,7 @@ use Rattle.esc_actions.specs.declared.control_code.ControlCode.TheVariants.{Shif
 use Rattle.esc_actions.specs.Writable.{AreWritable, AreWritableFrom, IsWritable, is_within, stays_within}
 use Rattle.esc_filter.specs.Closing.{after_values, ascii_in, closed_values, closing, escape, give, given_back, joined_lists, keeps_cursor, main_by, margins_back, next, private_mode, saved_back, saved_by, screen_back, states_back, without_margins}
 use Rattle.esc_filter.specs.GivenBack.{is_cursor_due, is_saved_due, main_part, margins_part, on_main, part, parts_on_main, saved_part, sequence, text_given_back, with_main}
-use Rattle.esc_filter.specs.Terminal.{is_changed_saved, unchanged}
+use Rattle.esc_filter.specs.Terminal.{is_changed_saved, as_at_start}
 use Rattle.esc_filter.specs.declared.terminal.Screen.{Screen}
 use Rattle.esc_filter.specs.declared.terminal.Screen.TheVariants as screen
 use Rattle.esc_filter.specs.declared.terminal.Terminal.{Terminal}
@@ -336,17 +336,17 @@ module _ {A : Type 0} where
       → AreWritable (closed_values admits vs)
   closed_writable admits vs h =
       both_from A false vs (closing admits vs) h
-      (back_writable A (keeps_cursor admits) (after_values vs unchanged))
+      (back_writable A (keeps_cursor admits) (after_values vs as_at_start))
 
   pub closing_text : (admits : Value A → Bool) (vs : List (Value A)) → list_text (closing admits vs)
-      ≡ text_given_back (keeps_cursor admits) (after_values vs unchanged)
-  closing_text admits vs = back_text A (keeps_cursor admits) (after_values vs unchanged) false
+      ≡ text_given_back (keeps_cursor admits) (after_values vs as_at_start)
+  closing_text admits vs = back_text A (keeps_cursor admits) (after_values vs as_at_start) false
 
   pub closed_more : (admits : Value A → Bool) (vs : List (Value A))
       → list_text (closed_values admits vs) ≡ list_text vs ++ list_text (closing admits vs)
   closed_more admits vs =
       let k = keeps_cursor admits in
-      let o = after_values vs unchanged in
+      let o = after_values vs as_at_start in
       texts_more false vs (closing admits vs)
       ∙ ap (λ t. list_text vs ++ t)
       (back_text A k o (ends_in_string false vs) ∙ sym (back_text A k o false))

@@ -10,7 +10,7 @@ use Rattle.esc_actions.specs.Values.{Value, control, csi, osc}
 use Rattle.esc_actions.specs.declared.control_code.ControlCode.TheVariants.{ShiftIn}
 use Rattle.esc_filter.specs.Closing.{IsAtStart, after_value, after_values, ascii_in, closed_values, closing, escape, give, given_back, keeps_cursor, main_by, margins_back, next, private_mode, saved_back, saved_by, screen_back, states_back, without_margins}
 use Rattle.esc_filter.specs.GivenBack.{on_main, with_main}
-use Rattle.esc_filter.specs.Terminal.{after_escape_function, after_function, after_private, are_changed_sets, is_changed, is_changed_mode, is_changed_saved, is_main, no_sets, nothing_saved, restore, save, unchanged}
+use Rattle.esc_filter.specs.Terminal.{after_escape_function, after_function, after_private, are_changed_sets, is_changed, is_changed_mode, is_changed_saved, is_main, no_sets, nothing_saved, restore, save, as_at_start}
 use Rattle.esc_filter.specs.declared.saved.Saved.{Saved}
 use Rattle.esc_filter.specs.declared.terminal.Screen.{Screen}
 use Rattle.esc_filter.specs.declared.terminal.Screen.TheVariants as screen
@@ -301,10 +301,10 @@ module _ (A : Type 0) where
       )) (last_start k (on_main t) (main_shown t.screen t refl))
 
   pub at_start : (admits : Value A → Bool) (vs : List (Value A))
-      → IsAtStart (after_values (closed_values admits vs) unchanged)
+      → IsAtStart (after_values (closed_values admits vs) as_at_start)
   at_start admits vs =
-      subst IsAtStart (sym (after_more vs (closing admits vs) unchanged))
-      (all_back (keeps_cursor admits) (after_values vs unchanged))
+      subst IsAtStart (sym (after_more vs (closing admits vs) as_at_start))
+      (all_back (keeps_cursor admits) (after_values vs as_at_start))
 
   -- ---- nothing is undone if nothing is changed
 
@@ -339,7 +339,7 @@ module _ (A : Type 0) where
   pub nothing_twice : (admits : Value A → Bool) (vs : List (Value A))
       → closing admits (closed_values admits vs) ≡ []
   nothing_twice admits vs =
-      nothing_if (keeps_cursor admits) (after_values (closed_values admits vs) unchanged)
+      nothing_if (keeps_cursor admits) (after_values (closed_values admits vs) as_at_start)
       (at_start admits vs)
 
   -- nothing is undone if no changes are left

@@ -24,8 +24,8 @@ use Rattle.esc_osc.specs.declared.command.OperatingSystemCommand.TheVariants as 
 use Rattle.esc_write.specs.Plain.{AreParams, IsPlainLink}
 use Rattle.esc_write.specs.declared.short_numbers.ShortNumbers.{ShortNumbers}
 use Rattle.esc_write.specs.declared.short_numbers.ShortNumbers.TheVariants as short
-use Rattle.control_functions.specs.Functions.{function_of, key_of, key_with, lead, marks, place, rows_of, sequence_key}
-use Rattle.control_functions.specs.Rows.{packed}
+use Rattle.control_functions.specs.Functions.{function_of, key_of, key_with, key_beginning, marks, place, rows_of, sequence_key}
+use Rattle.control_functions.specs.Rows.{base_256}
 use Rattle.control_functions.specs.declared.control_function.ControlFunction.{ControlFunction}
 use Rattle.control_functions.specs.declared.control_function.ControlFunction.TheVariants as function
 use Rattle.control_functions.proofs.Functions.{has_its_key}
@@ -77,7 +77,7 @@ lit_at es t = refl
 pub plain_lit : (es : List CsiParam) → list_all is_plain_param es ≡ true → (t : Terminal)
     → after_body es 0x6d t ≡ turned_terminal true t
 plain_lit es h t =
-    ap (λ ms. after_named (function_of (key_with (packed 1 ms) (length es) 0x6d)) es t)
+    ap (λ ms. after_named (function_of (key_with (base_256 1 ms) (length es) 0x6d)) es t)
     (no_marks es h) ∙ lit_at es t
 
 -- a rendition that has a name makes the same pen by its number
@@ -243,7 +243,7 @@ pub others_stay : (f : ℕ) (es : List CsiParam) (t : Terminal) → f < 256 → 
     → after_body es f t ≡ t
 others_stay f es t lt h l m p q r s u b =
     found_unmoved (function_of (sequence_key es f)) es t f
-    (λ g found. last_byte (key_of g) (lead (packed 1 (marks es)) (length es) f) f lt
+    (λ g found. last_byte (key_of g) (key_beginning (base_256 1 (marks es)) (length es) f) f lt
     (has_its_key (sequence_key es f) g found)) h l m p q r s u b
 
 -- ---- the numbers of a short one

@@ -12,7 +12,7 @@ use Rattle.control_functions.specs.Effects.{changes_screen, is_answered}
 use Rattle.control_functions.specs.EscapeEffects.{changes_screen as escape_changes_screen, is_answered as escape_is_answered}
 use Rattle.control_functions.specs.Escapes.{escape_of_name as escape_named}
 use Rattle.control_functions.specs.Functions.{function_of, is_long, key_with, marks, function_of_csi, rows_of, sequence_key}
-use Rattle.control_functions.specs.Rows.{packed}
+use Rattle.control_functions.specs.Rows.{base_256}
 use Rattle.control_functions.specs.declared.control_function.ControlFunction.{ControlFunction}
 use Rattle.control_functions.specs.declared.control_function.ControlFunction.TheVariants as function
 use Rattle.control_functions.specs.declared.escape_function.EscapeFunction.{EscapeFunction}
@@ -43,7 +43,7 @@ short_key n f h = rw h refl
 plain_key : (es : List CsiParam) (f : ℕ) → f ≤ 0x4d → list_all is_plain_param es ≡ true
     → sequence_key es f ≡ 256 + f
 plain_key es f low h =
-    ap (λ ms. key_with (packed 1 ms) (length es) f) (no_marks es h)
+    ap (λ ms. key_with (base_256 1 ms) (length es) f) (no_marks es h)
     ∙ short_key (length es) f (not_long f (length es) low)
 
 -- each plain function from ICH to DL changes the screen alone

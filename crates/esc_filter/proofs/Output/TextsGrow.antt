@@ -9,7 +9,7 @@ use Rattle.esc_actions.specs.Values.{Value}
 use Rattle.esc_filter.specs.Closing.{after_value, after_values}
 use Rattle.esc_filter.specs.Pens.{pen_after, pen_after_value}
 use Rattle.esc_pen.specs.declared.pen.Pen.{Pen}
-use Rattle.esc_filter.specs.Terminal.{unchanged}
+use Rattle.esc_filter.specs.Terminal.{as_at_start}
 use Rattle.esc_filter.specs.declared.terminal.Terminal.{Terminal}
 use Rattle.esc_filter.specs.Passing.{passed_values, passed_as, passed_text, passed_text_as, passes}
 use Rattle.esc_filter.specs.Characters.{in_values, in_values_after, keep_all, last_after}
@@ -70,12 +70,12 @@ after_more (v ∷ vs) ws o = after_more vs ws (after_value v o)
 
 pub left_longer : {A : Type 0} (u : Guard) (limit : Option ℕ) (admits : Value A → Bool)
     (s b : List ℕ)
-    → after_values (passed_as u limit admits (s ++ b)) unchanged
+    → after_values (passed_as u limit admits (s ++ b)) as_at_start
     ≡ after_values (added_as u limit admits s b)
-    (after_values (passed_as u limit admits s) unchanged)
+    (after_values (passed_as u limit admits s) as_at_start)
 left_longer u limit admits s b =
-    ap (λ vs. after_values vs unchanged) (written_longer u limit admits s b)
-    ∙ after_more (passed_as u limit admits s) (added_as u limit admits s b) unchanged
+    ap (λ vs. after_values vs as_at_start) (written_longer u limit admits s b)
+    ∙ after_more (passed_as u limit admits s) (added_as u limit admits s b) as_at_start
 
 -- the character written last
 pub last_longer : {A : Type 0} (u : Guard) (limit : Option ℕ) (admits : Value A → Bool)

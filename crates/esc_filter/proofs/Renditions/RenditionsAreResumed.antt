@@ -3,7 +3,7 @@ use Rattle.std.proofs.Common.{ℕ, ◌≡◌, ◌≢◌, ◌<◌, length, Bool, 
 use Rattle.std.specs.Prelude.{Err, IfOk, Ok, Result, string_bytes}
 use Rattle.esc_actions.specs.Values.{Value}
 use Rattle.esc_filter.specs.Lines.{FillsLine, GrowsBy, GrowsRest, IsLine, HasConsumedLines, added_by, body, content, ends_line, has_line_feed, is_line_feed, passed_of_line, text_by_lines_as}
-use Rattle.esc_filter.specs.Openings.{IsQuiet, is_blank, opening_at, opening_left, resumed, resumed_closed, resumed_from, resumed_text}
+use Rattle.esc_filter.specs.Openings.{IsQuiet, is_blank, opening_at, opening_left, resumed_stream, resumed_closed, resumed_from, resumed_text}
 use Rattle.esc_filter.specs.Resumed.{AddsResumed, ClosesWith, EndsWith, GrowsResumed, IsMarked}
 use Rattle.esc_filter.specs.declared.guard.Guard.{Guard}
 use Rattle.esc_filter.specs.declared.line_filter.LineFilter.{LineFilter}
@@ -358,7 +358,7 @@ module _ {A : Type 0} (k : Bool) (u : Guard) (limit : ℕ) (admits : Value A →
       → (t : List ℕ) × (resumed_text {A = A} k u limit admits (s ++ b)
       ≡ resumed_text {A = A} k u limit admits s ++ t)
   resumed_more s b =
-      let d = resumed {A = A} k u limit admits s in
+      let d = resumed_stream {A = A} k u limit admits s in
       let (x, e) = from_longer u limit admits k d b in
       let (t, f) = by_more {A = A} u limit admits d x in (
         t,
@@ -369,17 +369,17 @@ module _ {A : Type 0} (k : Bool) (u : Guard) (limit : ℕ) (admits : Value A →
   pub resumed_longer : (s : List ℕ)
       → (t : List ℕ) × (resumed_closed {A = A} k u limit admits s
       ≡ resumed_text {A = A} k u limit admits s ++ t)
-  resumed_longer s = closed_longer u limit admits (resumed {A = A} k u limit admits s)
+  resumed_longer s = closed_longer u limit admits (resumed_stream {A = A} k u limit admits s)
 
   -- the filter was fed b too
   pub adds_resumed : {P : Type 0} (s b : List ℕ) (old new : ResumingFilter P A)
       → added_by old.lines ≡ []
-      → GrowsResumed k u admits limit (resumed {A = A} k u limit admits s) b old new
+      → GrowsResumed k u admits limit (resumed_stream {A = A} k u limit admits s) b old new
       → AddsResumed k u admits limit s b (added_by new.lines) new
   adds_resumed s b old new none (x, e, (g, m)) =
-      let d = resumed {A = A} k u limit admits s in
+      let d = resumed_stream {A = A} k u limit admits s in
       let (w, f) = adds_all u limit admits d x old.lines new.lines none g in
-      let same : resumed {A = A} k u limit admits (s ++ b) ≡ d ++ x =
+      let same : resumed_stream {A = A} k u limit admits (s ++ b) ≡ d ++ x =
       from_more u limit admits k [] s b ∙ e in (
         record {
           fed = subst (λ z. HasConsumedLines u limit admits z new.lines) (sym same) w;

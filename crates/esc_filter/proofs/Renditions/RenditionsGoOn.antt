@@ -17,7 +17,7 @@ use Rattle.esc_pen.specs.declared.ink.Ink.TheVariants as ink
 use Rattle.esc_pen.specs.declared.pen.Pen.{Pen}
 use Rattle.esc_filter.specs.Closing.{after_values, joined_lists}
 use Rattle.esc_filter.specs.Lines.{IsLine, content, ends_line, has_line_feed, is_line_feed, lines, passed_of_content}
-use Rattle.esc_filter.specs.Terminal.{unchanged}
+use Rattle.esc_filter.specs.Terminal.{as_at_start}
 use Rattle.esc_filter.specs.Openings.{AreQuiet, is_blank, opening, opening_after, opening_at, opening_before, opening_left, opening_of, resumed_from}
 use Rattle.esc_filter.specs.Pens.{pen_after, start_pen, text_of_pen}
 use Rattle.esc_filter.specs.declared.guard.Guard.{Guard}
@@ -143,7 +143,7 @@ opening_feedless : (t : Terminal) (p : Option Pen) → Feedless (opening t p)
 opening_feedless t p = either_feedless t.rendition (text_of_pen p) [] (some_feedless p) refl
 
 left_feedless : {A : Type 0} (vs : List (Value A)) → Feedless (opening_left vs)
-left_feedless vs = opening_feedless (after_values vs unchanged) (pen_after vs (start_pen true))
+left_feedless vs = opening_feedless (after_values vs as_at_start) (pen_after vs (start_pen true))
 
 -- ---- lines one after another
 

@@ -1,6 +1,6 @@
 use Rattle.std.proofs.Common.{ap, ◌∙◌}
 use Rattle.esc_filter.specs.Lines.{closed_by_lines_as}
-use Rattle.esc_filter.specs.Openings.{resumed}
+use Rattle.esc_filter.specs.Openings.{resumed_stream}
 use Rattle.esc_idempotent.proofs.AllLines.{lines_twice, resumes_nothing}
 use Rattle.esc_idempotent.proofs.filters_lines_twice.Goals as goal
 
@@ -10,9 +10,9 @@ returns-clause-by_lines g c = λ u limit again f text closes s kept.
     c.written_reads_back.ensures.ended c.lines_written.ensures.ended
     c.lines_written.ensures.closed limit again s kept
 
-pub returns-clause-resumed : goal.returns-clause-resumed
-returns-clause-resumed g c = λ k u limit again f text closes s kept.
-    let d = resumed k u limit f s in
+pub returns-clause-resumed_stream : goal.returns-clause-resumed_stream
+returns-clause-resumed_stream g c = λ k u limit again f text closes s kept.
+    let d = resumed_stream k u limit f s in
     ap (closed_by_lines_as u again f)
     (resumes_nothing u f text closes c.written_reads_back.ensures.goes_on
     c.written_reads_back.ensures.ended c.lines_written.ensures.ended

@@ -1,7 +1,7 @@
 //! Changes of cells.
 ghost use Rattle.std.specs.Prelude.{◌≡◌};
 ghost use Rattle.esc_screen.specs.Screens.{Becomes, grid_of, size_of};
-ghost use Rattle.esc_screen.specs.Changes.{alignment_grid, cells_deleted, cells_erased, cells_inserted, columns_moved, columns_within, fed, grid_by_change, indexed_back, indexed_on, is_within, rows_deleted, rows_inserted};
+ghost use Rattle.esc_screen.specs.Changes.{alignment_grid, cells_deleted, cells_erased, cells_inserted, columns_moved, columns_within, next_row, grid_by_change, indexed_back, indexed_on, is_within, rows_deleted, rows_inserted};
 
 use crate::cell::Cell;
 use crate::change::Change;
@@ -176,7 +176,8 @@ impl<A: Allocator> Screen<A> {
 
     // To the next row, and to its first column where a line feed returns.
     fn feed(&mut self, returns: bool)
-        ensures { Becomes self.old (fed (size_of self.old) returns (grid_of self.old)) self.new }
+        ensures { Becomes self.old
+            (next_row (size_of self.old) returns (grid_of self.old)) self.new }
     {
         if returns {
             self.to_next_line();

@@ -2,10 +2,10 @@
 ghost use Rattle.std.specs.Prelude.{◌≡◌, ◌+◌, ◌<◌, ◌≤◌, false, length, map, take, true};
 ghost use Rattle.esc_screen.specs.Screens.{Becomes, grid_of, size_of};
 ghost use Rattle.esc_screen.specs.Cells.{put_all};
-ghost use Rattle.esc_screen.specs.Cursors.{shown};
+ghost use Rattle.esc_screen.specs.Cursors.{drawn_character};
 ghost use Rattle.esc_screen.specs.Grids.{in_row, next_line};
 ghost use Rattle.esc_screen.specs.Lists.{times};
-ghost use Rattle.esc_screen.specs.Printing.{before, column_before, has_before, has_room, is_direct, joined, mark_printed, narrow_printed, narrow_put, grid_with_room, grid_past, grid_with_character, printed_wide, grid_with_repeats, wide_printed, wide_put, wrapped_grid, wrapped_past, wrapped_wide};
+ghost use Rattle.esc_screen.specs.Printing.{before, column_before, has_before, has_room, is_direct, row_gone_on, mark_printed, narrow_printed, narrow_put, grid_with_room, grid_past, grid_with_character, printed_wide, grid_with_repeats, wide_printed, wide_put, wrapped_grid, wrapped_past, wrapped_wide};
 ghost use Rattle.esc_screen.specs.Steps.{grid_from};
 ghost use Rattle.esc_screen.specs.declared.step.Step.TheVariants as step;
 
@@ -18,7 +18,7 @@ use std::alloc::Allocator;
 impl<A: Allocator> Screen<A> {
     // Says that the row of the cursor, which is in its last column, goes on in the next one.
     pub(crate) fn join(&mut self)
-        ensures { Becomes self.old (joined (grid_of self.old)) self.new }
+        ensures { Becomes self.old (row_gone_on (grid_of self.old)) self.new }
     {
         if let Some(row) = self.rows.get_mut(self.cursor.row as usize) {
             row.join(self.cursor.column as usize);
@@ -27,7 +27,7 @@ impl<A: Allocator> Screen<A> {
 
     // To the next row, by a wrap.
     fn wrap_on(&mut self)
-        ensures { Becomes self.old (next_line (size_of self.old) (joined (grid_of self.old)))
+        ensures { Becomes self.old (next_line (size_of self.old) (row_gone_on (grid_of self.old)))
             self.new }
     {
         self.join();
@@ -115,7 +115,7 @@ impl<A: Allocator> Screen<A> {
 
     // Returns the character that is shown for this one.
     pub(crate) fn shown(&self, c: char) -> char
-        ensures { result ≡ shown self.now.cursor c }
+        ensures { result ≡ drawn_character self.now.cursor c }
     {
         if self.cursor.draws() {
             line_drawing(c)

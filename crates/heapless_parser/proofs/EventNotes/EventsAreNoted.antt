@@ -3,7 +3,7 @@ use Rattle.std.proofs.Common.{ℕ, ◌≡◌, ◌≢◌, ◌≤◌, ◌<◌, ◌
 use Rattle.std.proofs.Common.{refl, ap, sym, ◌∙◌, subst, append_assoc, inl, arith}
 use Rattle.std.proofs.lemmas.List.{append-nil}
 use Rattle.std.specs.List.{FoldsTo}
-use Rattle.esc_values.specs.Clear.{joined, parts_of}
+use Rattle.esc_values.specs.Clear.{semicolon_list, parts_of}
 use Rattle.esc_values.proofs.Split.{joined_parts}
 use Rattle.esc_frame.specs.Events.{Event, StopsAt}
 use Rattle.esc_frame.specs.Limits.{is_within, most}
@@ -12,7 +12,8 @@ use Rattle.heapless_parser.specs.Noted.{Adds, AreNotable, IsSound}
 use Rattle.heapless_parser.specs.Emitted.{said_events, is_run}
 use Rattle.heapless_parser.proofs.InChunks.CommandsLieWhole.{within, within_only}
 
-pub parts_room : (place : ℕ) (t : List ℕ) → length (joined (parts_of t)) ≤ place → length t ≤ place
+pub parts_room : (place : ℕ) (t : List ℕ) → length (semicolon_list (parts_of t)) ≤ place → length t
+    ≤ place
 parts_room place t h = subst (λ y. length y ≤ place) (joined_parts t) h
 
 -- a text that has no room in a store as long as the limit does not fit

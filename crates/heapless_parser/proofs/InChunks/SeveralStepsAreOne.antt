@@ -14,7 +14,7 @@ use Rattle.heapless_parser.specs.declared.parser.EscParser.{EscParser}
 use Rattle.heapless_parser.specs.Limited.{IsLimited, AddsFewer}
 use Rattle.heapless_parser.specs.Runs.{Emits}
 use Rattle.heapless_parser.specs.States.{KeptIn, HasConsumed}
-use Rattle.heapless_parser.specs.Emitted.{emitted, placed_bytes, emitted_by, queued_of}
+use Rattle.heapless_parser.specs.Emitted.{emitted_events, placed_bytes, emitted_by, queued_of}
 use Rattle.heapless_parser.proofs.EventNotes.LimitAddsNoEvent.{fewer_then}
 
 module _ (bytes : List ℕ) (at n : ℕ) where
@@ -43,7 +43,7 @@ module _ (bytes : List ℕ) (at n : ℕ) where
 
   -- a run that lies at the first byte of the tail
   pub emitted_placed : (e : EscEvent) (out : List ℕ)
-      → emitted (record e { start = at }) out bytes ≡ emitted_by e out (take e.length tail)
+      → emitted_events (record e { start = at }) out bytes ≡ emitted_by e out (take e.length tail)
   emitted_placed e out = ap (λ y. emitted_by e out (take e.length y)) (sym (take_rest bytes at))
 
   pub utf8_placed : (e : EscEvent) → IsUtf8 (take e.length tail)
@@ -64,7 +64,7 @@ pub at_more : (s bytes : List ℕ) (n : ℕ) (es : List Event) (old new : EscPar
     ≡ events_all (Some (length memory)) u (take n bytes))
     → HasConsumed s es old memory → HasConsumed (s ++ take n bytes) (es ++ said) new later
 unfolding HasConsumed events_within
-at_more s bytes n es old new memory later said same failed queued kept emitted h =
+at_more s bytes n es old new memory later said same failed queued kept emitted_events h =
     let x = take n bytes in
     let u = after_all Ground s in
     let limit = Some (length memory) in
@@ -74,7 +74,7 @@ at_more s bytes n es old new memory later said same failed queued kept emitted h
       subst (KeptIn new later) (sym (after_append Ground s x)) (kept u h.1),
       ap (λ k. events_all (Some k) Ground (s ++ x)) same ∙ events_append limit Ground s x
           ∙ ap (λ y. y ++ events_all limit u x) before
-          ∙ ap (λ y. es ++ y) (sym (emitted u h.1))
+          ∙ ap (λ y. es ++ y) (sym (emitted_events u h.1))
           ∙ sym (append_assoc es said (queued_of new.queued_kind new.queued_value)),
     )
 
@@ -86,12 +86,12 @@ pub at_queued : (s bytes : List ℕ) (es : List Event) (old new : EscParser) (me
     → ((u : Unfinished) → KeptIn old memory u → KeptIn new memory u)
     → HasConsumed s es old memory → HasConsumed (s ++ take 0 bytes) (es ++ said) new memory
 unfolding HasConsumed
-at_queued s bytes es old new memory said failed emitted queued kept h =
+at_queued s bytes es old new memory said failed emitted_events queued kept h =
     let e : s ++ take 0 bytes ≡ s = append-nil s in
     subst (λ y. HasConsumed y (es ++ said) new memory) (sym e) (
       failed ∙ h.0,
       kept _ h.1,
-      h.2 ∙ ap (λ y. es ++ y) (sym emitted) ∙ sym (append-nil (es ++ said))
+      h.2 ∙ ap (λ y. es ++ y) (sym emitted_events) ∙ sym (append-nil (es ++ said))
           ∙ ap (λ y. (es ++ said) ++ y) (sym queued),
     )
 
@@ -101,12 +101,12 @@ pub at_first : (s bytes : List ℕ) (n : ℕ) (es : List Event) (p : EscParser) 
     → queued_of p.queued_kind p.queued_value ≡ []
     → Emits p p e out (length memory) bytes (take n bytes)
     → HasConsumed s es p memory
-    → HasConsumed (s ++ take n bytes) (es ++ emitted e out bytes) p memory
+    → HasConsumed (s ++ take n bytes) (es ++ emitted_events e out bytes) p memory
 at_first s bytes n es p memory e out start queued emits h =
-    at_more s bytes n es p p memory memory (emitted e out bytes) refl refl queued (λ u k.
+    at_more s bytes n es p p memory memory (emitted_events e out bytes) refl refl queued (λ u k.
     (emits u memory refl k).0)
     (λ u k.
-    ap (λ y. emitted e out bytes ++ y) queued ∙ append-nil (emitted e out bytes)
+    ap (λ y. emitted_events e out bytes ++ y) queued ∙ append-nil (emitted_events e out bytes)
     ∙ ap (λ i. emitted_by e out (take e.length (drop i bytes))) start
     ∙ (emits u memory refl k).1) h
 

@@ -4,7 +4,7 @@ use Rattle.esc_normal.specs.Normalising.{HasConsumed}
 use Rattle.esc_calls.proofs.Keeping.{kept_has}
 use Rattle.esc_calls.specs.InChunks.{text_in}
 use Rattle.esc_calls.specs.Kept.{normaliser_in}
-use Rattle.esc_calls.specs.NormalChunks.{formed}
+use Rattle.esc_calls.specs.NormalChunks.{normal_text}
 use Rattle.esc_calls.proofs.normal_chunks.normal_feed.Goals as goal
 
 pub returns-in-Ok-clause-taken : goal.returns-in-Ok-clause-taken
@@ -16,7 +16,7 @@ returns-in-Ok-clause-taken c = λ limit s h done.
     let k = c.in-Ok.ensures.given (Some limit) s f in
     record {
       fed = (c.feed.new.self, ap normaliser_in c.of.ensures.begun, k.0);
-      text = k.1 ∙ ap (λ t. formed limit s ++ t) (sym (ap text_in c.of.ensures.begun));
+      text = k.1 ∙ ap (λ t. normal_text limit s ++ t) (sym (ap text_in c.of.ensures.begun));
     }
 
 pub returns-in-Err-clause-memory : goal.returns-in-Err-clause-memory

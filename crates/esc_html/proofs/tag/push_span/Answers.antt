@@ -1,7 +1,7 @@
 use Rattle.std.proofs.Common.{codes, false, string_bytes, refl, ap, ◌∙◌, ◌++◌}
 use Rattle.esc_html.proofs.Attributes.{tag_joined}
 use Rattle.esc_html.proofs.EscapedRuns.{ascii_utf8, grown_ok, grows_literal, grows_on, grows_same, grows_then}
-use Rattle.esc_style.specs.Looks.{look_classes, look_styles, present}
+use Rattle.esc_style.specs.Looks.{look_classes, look_styles, values_of}
 use Rattle.esc_html.specs.PageParts.{attributes_text, class_attribute, span_attributes, style_attribute}
 use Rattle.esc_html.proofs.tag.push_span.Goals as goal
 
@@ -40,12 +40,12 @@ returns-clause-ok g c =
     grown_ok c.push_str-2.result three (string_bytes c.push_str-2.new.text) (codes ">")
     (old ++ (codes "<span" ++ (attributes_text (span_attributes false look) ++ codes ">")))
     c.push_str-2.ensures.bytes
-    (tag_joined old one two three (class_attribute (present (look_classes look)))
-    (style_attribute (present (look_styles look))) c.in_ok-push_str.ensures.bytes
+    (tag_joined old one two three (class_attribute (values_of (look_classes look)))
+    (style_attribute (values_of (look_styles look))) c.in_ok-push_str.ensures.bytes
     (c.in_ok-push_class_attribute.ensures.ok
-    ∙ ap (λ x. one ++ attributes_text (class_attribute (present x))) c.classes.ensures)
+    ∙ ap (λ x. one ++ attributes_text (class_attribute (values_of x))) c.classes.ensures)
     (c.in_ok-push_style_attribute.ensures.ok
-    ∙ ap (λ x. two ++ attributes_text (style_attribute (present x))) c.styles.ensures))
+    ∙ ap (λ x. two ++ attributes_text (style_attribute (values_of x))) c.styles.ensures))
 
 pub returns-clause-grown : goal.returns-clause-grown
 returns-clause-grown g c =

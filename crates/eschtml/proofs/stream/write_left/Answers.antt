@@ -10,7 +10,7 @@ use Rattle.esc_html.specs.Fed.{HasConsumed}
 use Rattle.esc_html.specs.Pages.{page_text}
 use Rattle.line_collapse.proofs.Streams.{final_after_nil}
 use Rattle.line_collapse.specs.Fed.{final_after, left_after}
-use Rattle.eschtml.specs.Piped.{composed}
+use Rattle.eschtml.specs.Piped.{composition}
 use Rattle.eschtml.specs.Written.{IsHtml, ended_by, going_by, layout_by, page_of, screen_text, seen_by, shown_of, size_of, whole_screen}
 use Rattle.eschtml.proofs.Left.{html_adds, no_html, no_screen, pages_add}
 use Rattle.eschtml.proofs.Lining.{going_nothing, html_is}
@@ -30,8 +30,8 @@ returns-clause-holds g c =
     let y = layout_by o.first o.layout in
     let fed = subst (λ z. HasConsumed l z [] c.new-marked.result.writer) c.layout_by.ensures
     c.new-marked.ensures in
-    let going = composed (page_text a (Some l) y) (final_after a z m) in
-    let whole = composed (page_of a l y) (left_after a z e) in
+    let going = composition (page_text a (Some l) y) (final_after a z m) in
+    let whole = composition (page_of a l y) (left_after a z e) in
     let new = c.new-piped.ensures.begins (final_after a z m) (left_after a z e)
     (page_text a (Some l) y) (page_of a l y)
     (z, m, e, c.in-Ok.ensures.fed m e fresh (no_screen a l), refl, refl)
@@ -62,7 +62,7 @@ returns-in_default-clause-holds g c =
     let y = layout_by o.first o.layout in
     let z = size_of o c.args.rows in
     let held = g.W.Write.contents c.args.writer.now.inner in
-    let m = composed (page_text a (Some l) y) (final_after a z (screen_text a l)) in record {
+    let m = composition (page_text a (Some l) y) (final_after a z (screen_text a l)) in record {
       read_all = tt;
       written = tt;
       decided = λ k. absurd cc;
@@ -83,7 +83,7 @@ returns-in_default-clause-holds g c =
         Consumes-nil _,
         prefix_none _
             (ended_by o.first
-            (composed (page_of a l y) (left_after a z (whole_screen a l))
+            (composition (page_of a l y) (left_after a z (whole_screen a l))
             (seen_by a o true true []))),
       );
       read_fault = not_failed _ _ _ (λ k. absurd cc);
@@ -108,5 +108,5 @@ returns-clause-refused g c =
     (z, m, e, c.in-Ok.ensures.fed m e fresh (no_screen a l), refl, refl)
     (final_after_nil a z m (no_screen a l)) (l, y, fed, refl, refl)
     (pages_add a l y) in
-    c.write_lined.ensures.refused (composed (page_text a (Some l) y) (final_after a z m))
-    (composed (page_of a l y) (left_after a z e)) new (no_html a l y z) (html_adds a l y z)
+    c.write_lined.ensures.refused (composition (page_text a (Some l) y) (final_after a z m))
+    (composition (page_of a l y) (left_after a z e)) new (no_html a l y z) (html_adds a l y z)

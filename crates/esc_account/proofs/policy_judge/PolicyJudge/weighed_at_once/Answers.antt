@@ -1,13 +1,13 @@
 use Rattle.std.proofs.Common.{Some}
 use Rattle.esc_frame.specs.Segments.{is_finished, joined_bytes}
 use Rattle.esc_actions.specs.Readings.{reading_within}
-use Rattle.esc_account.specs.Weighed.{unweighed}
+use Rattle.esc_account.specs.Weighed.{facts_of_none}
 use Rattle.esc_account.proofs.Weights.{weighs}
 use Rattle.esc_account.proofs.policy_judge.PolicyJudge.weighed_at_once.Goals as goal
 
 pub returns-in-Ok : goal.returns-in-Ok
 returns-in-Ok g c = λ s gs each item.
     let j = c.args.self.now in
-    weighs g.P.Admit.admits j c.args.before c.args.segment.kind (unweighed c.args.before)
+    weighs g.P.Admit.admits j c.args.before c.args.segment.kind (facts_of_none c.args.before)
     (reading_within (Some j.limit) s (is_finished s (joined_bytes gs))) _ _ c.new-sink.ensures
     (c.in-Ok.ensures s gs each item)

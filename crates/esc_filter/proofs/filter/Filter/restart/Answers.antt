@@ -4,7 +4,7 @@ use Rattle.esc_actions.proofs.Meanings.{meaning_nil}
 use Rattle.esc_filter.proofs.filter.Filter.restart.Goals as goal
 use Rattle.esc_filter.specs.Characters.{last_after}
 use Rattle.esc_filter.specs.Closing.{after_values}
-use Rattle.esc_filter.specs.Terminal.{unchanged}
+use Rattle.esc_filter.specs.Terminal.{as_at_start}
 use Rattle.esc_filter.specs.Pens.{pen_after, start_pen}
 use Rattle.esc_filter.specs.Fed.{policy_of}
 use Rattle.esc_filter.specs.Passing.{in_lines}
@@ -18,7 +18,7 @@ returns-clause-fed g c = λ b u limit s h.
       c.restart.ensures.fed (Some limit) s h.0,
       (
         n.0 ∙ ap (ends_in_string false) (of_nothing u admits nil),
-        n.1 ∙ ap (λ vs. after_values vs unchanged) (of_nothing u admits nil),
+        n.1 ∙ ap (λ vs. after_values vs as_at_start) (of_nothing u admits nil),
         n.2 ∙ h.1.2,
         n.3 ∙ h.1.3,
         n.4 ∙ ap (last_after None) (of_nothing u admits nil),

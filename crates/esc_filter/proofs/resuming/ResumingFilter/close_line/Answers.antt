@@ -4,7 +4,7 @@ use Rattle.esc_filter.specs.Lines.{EndsLine, policy_of_lines}
 use Rattle.esc_filter.specs.Closing.{after_values}
 use Rattle.esc_filter.specs.Openings.{opening}
 use Rattle.esc_filter.specs.Passing.{in_lines, passed_as}
-use Rattle.esc_filter.specs.Terminal.{unchanged}
+use Rattle.esc_filter.specs.Terminal.{as_at_start}
 use Rattle.esc_parse.proofs.Lists.{on_ok_more}
 use Rattle.esc_filter.proofs.resuming.ResumingFilter.close_line.Goals as goal
 
@@ -24,7 +24,7 @@ returns-in-Ok-clause-given g c = λ u limit l h.
           ∙ ap (λ p. if old.resumes then opening (after_values
           (passed_as u (Some limit)
           (in_lines true (g.P.Admit.admits (policy_of_lines old.lines))) l)
-          unchanged) p else []) h.1.5,
+          as_at_start) p else []) h.1.5,
     ))
     (subst (λ z. HasConsumedIn u true limit (g.P.Admit.admits (policy_of_lines z)) l z.filter
     → OnOk c.end_line.result (EndsLine u (g.P.Admit.admits (policy_of_lines z)) limit l z new)) same

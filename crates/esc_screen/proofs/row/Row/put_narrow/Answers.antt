@@ -1,5 +1,5 @@
 use Rattle.std.proofs.Common.{◌<◌, ◌≤◌, subst, sym, ◌∙◌, arith}
-use Rattle.esc_screen.specs.Cells.{put}
+use Rattle.esc_screen.specs.Cells.{cells_with}
 use Rattle.esc_screen.specs.Used.{IsUnusedFrom}
 use Rattle.esc_screen.proofs.Used.{unused_more, unused_put, written_by}
 use Rattle.esc_screen.proofs.row.Row.put_narrow.Goals as goal
@@ -12,7 +12,7 @@ invariant_of-self g c =
     let more : row.used ≤ n = omega (arith, c.max-self-inside.ensures) in
     let few : c.args.at < n = omega (arith, c.max-self-inside.ensures) in
     subst (IsUnusedFrom n)
-    (sym (written_by (put c.args.at c.args.look c.args.c) row.cells.len
+    (sym (written_by (cells_with c.args.at c.args.look c.args.c) row.cells.len
     c.put_narrow.new.cells _ xs (c.put_narrow.auto.cells ∙ c.deref_mut.ensures.len)
     c.put_narrow.ensures c.deref_mut.ensures.value))
     (unused_put n c.args.at c.args.look c.args.c xs few

@@ -1,7 +1,7 @@
 use Rattle.std.proofs.Common.{ap, ◌∙◌}
 use Rattle.std.proofs.lemmas.Result.{on_ok_weaker}
 use Rattle.eschtml.proofs.Joined.{joins_fed, joins_longer}
-use Rattle.eschtml.specs.Joined.{joined}
+use Rattle.eschtml.specs.Joined.{text_without_pairs}
 use Rattle.eschtml.proofs.joining.JoiningStreamFilter.feed.Goals as goal
 
 pub returns-in_err-held-clause-longer : goal.returns-in_err-held-clause-longer
@@ -16,7 +16,7 @@ returns-clause-given g c = λ m e s h.
     on_ok_weaker c.feed.result
     (λ k. joins_fed g.F.StreamFilter _ _ m e s h c.args.bytes.now x (g.F.StreamFilter.added new)
     c.in_ok-held.held new (c.deref.ensures.value ∙ ok.0) ok.1 k.0 k.1)
-    (c.feed.ensures.given h.inner h.inner_end (joined s) h.given)
+    (c.feed.ensures.given h.inner h.inner_end (text_without_pairs s) h.given)
 
 pub returns-clause-longer : goal.returns-clause-longer
 returns-clause-longer g c = λ m e s h.
