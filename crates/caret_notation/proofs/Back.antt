@@ -8,10 +8,10 @@ use Rattle.esc_actions.specs.Values.{Value}
 use Rattle.caret_notation.proofs.Cutting.{before_last, feed_is, last_of}
 use Rattle.caret_notation.proofs.Parts.{all_parts}
 use Rattle.caret_notation.proofs.Reading.{IsRead, read_both, read_character, read_itself, read_nothing, read_single, read_stray}
-use Rattle.caret_notation.specs.Pieces.{ends_in_line, is_piece, pieces_after, rest_after}
+use Rattle.caret_notation.specs.Spans.{ends_in_line, is_span, spans_after, rest_after}
 use Rattle.caret_notation.specs.ReadBack.{is_byte, read_back, read_from}
 use Rattle.caret_notation.specs.ReadBack.Reading.{Plain}
-use Rattle.caret_notation.specs.Revealed.{but_last, is_kept, piece_text, revealed_whole, revealed_whole_as}
+use Rattle.caret_notation.specs.Revealed.{but_last, is_kept, span_text, revealed_whole, revealed_whole_as}
 use Rattle.caret_notation.specs.Visible.{closing, is_mark, lets_stay, opening, shown_text, visible_text}
 use Rattle.caret_notation.specs.declared.marking.Marking.{Marking}
 use Rattle.caret_notation.specs.declared.marking.Marking.TheVariants as marking
@@ -41,7 +41,7 @@ feed_read after = refl
 
 -- ---- bytes that are told from marks
 
--- bytes, which have no mark if a piece of them may stay
+-- bytes, which have no mark if a span of them may stay
 abbrev Fits : Marking → List ℕ → Type 0
 Fits m p = (list_all is_byte p ≡ true) × (lets_stay m p ≡ true → has_mark p ≡ false)
 
@@ -63,12 +63,12 @@ fits_part m x y (h, k) =
     let p = marks_part m x y k in
     ((q.0, p.0), (q.1, p.1))
 
--- ---- pieces, one after another
+-- ---- spans, one after another
 
 module _ {A : Type 0} (m : Marking) (bare : opening m ≡ []) (bare_end : closing m ≡ [])
     (by_lines : Bool) (limit : ℕ) (admits : Value A → Bool) where
   abbrev text : List ℕ → List ℕ
-  text p = piece_text {A = A} m by_lines limit admits p
+  text p = span_text {A = A} m by_lines limit admits p
 
   shown_read : (s : List ℕ) → list_all is_byte s ≡ true → IsRead (shown_text m s) s
   shown_read [] h = read_nothing
@@ -78,9 +78,9 @@ module _ {A : Type 0} (m : Marking) (bare : opening m ≡ []) (bare_end : closin
       (sym (ap (λ o. o ++ (t ++ closing m)) bare ∙ ap (λ c. t ++ c) bare_end ∙ append-nil t))
       (all_parts IsRead read_nothing read_both read_single read_stray read_character (b ∷ s) h)
 
-  piece_read : (r : List ℕ) (b : ℕ) → Fits m (r ++ b ∷ [])
+  span_read : (r : List ℕ) (b : ℕ) → Fits m (r ++ b ∷ [])
       → IsRead (text (r ++ b ∷ [])) (r ++ b ∷ [])
-  piece_read r b (bytes, unmarked) =
+  span_read r b (bytes, unmarked) =
       by_tests (ends_in_line by_lines p) (is_kept m limit admits p) refl refl
     where
       p : List ℕ
@@ -101,14 +101,14 @@ module _ {A : Type 0} (m : Marking) (bare : opening m ≡ []) (bare_end : closin
       by_tests false false e k = shown_read p bytes
 
   abbrev all : List ℕ → List ℕ → List ℕ
-  all r s = flat_map text (pieces_after by_lines r s) ++ shown_text m (rest_after by_lines r s)
+  all r s = flat_map text (spans_after by_lines r s) ++ shown_text m (rest_after by_lines r s)
 
   all_read : (r s : List ℕ) → Fits m (r ++ s) → IsRead (all r s) (r ++ s)
   all_read r [] h =
       subst (IsRead (shown_text m r)) (sym (append-nil r)) (shown_read r (fits_part m r [] h).0.0)
   all_read r (b ∷ s) h =
       subst (IsRead (all r (b ∷ s))) same
-      (by_piece (is_piece by_lines q) (piece_read r b parts.0) (all_read [] s parts.1)
+      (by_span (is_span by_lines q) (span_read r b parts.0) (all_read [] s parts.1)
       (all_read q s fits))
     where
       q : List ℕ
@@ -123,17 +123,17 @@ module _ {A : Type 0} (m : Marking) (bare : opening m ≡ []) (bare_end : closin
       parts : Fits m q × Fits m s
       parts = fits_part m q s fits
 
-      by_piece : (t : Bool) → IsRead (text q) q → IsRead (all [] s) s → IsRead (all q s) (q ++ s)
-          → IsRead (flat_map text (if t then q ∷ pieces_after by_lines [] s
-          else pieces_after by_lines q s)
+      by_span : (t : Bool) → IsRead (text q) q → IsRead (all [] s) s → IsRead (all q s) (q ++ s)
+          → IsRead (flat_map text (if t then q ∷ spans_after by_lines [] s
+          else spans_after by_lines q s)
           ++ shown_text m (if t then rest_after by_lines [] s else rest_after by_lines q s))
           (q ++ s)
-      by_piece true one more k =
+      by_span true one more k =
           subst (λ x. IsRead x (q ++ s))
-          (sym (append_assoc (text q) (flat_map text (pieces_after by_lines [] s))
+          (sym (append_assoc (text q) (flat_map text (spans_after by_lines [] s))
           (shown_text m (rest_after by_lines [] s))))
           (read_both (text q) (all [] s) q s one more)
-      by_piece false one more k = k
+      by_span false one more k = k
 
   whole_read : (s : List ℕ) → Fits m s
       → read_back (revealed_whole_as {A = A} m by_lines limit admits s) ≡ s

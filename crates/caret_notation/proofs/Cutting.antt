@@ -1,4 +1,4 @@
--- Pieces of a stream, as it grows.
+-- Spans of a stream, as it grows.
 use Rattle.std.proofs.Common.{ℕ, ◌≡◌, ◌&&◌, ◌||◌, Bool, true, false, nat_le, if◌then◌else◌, List, [], ◌∷◌, ◌++◌, arith, refl, ap, sym, ◌∙◌, append_assoc}
 use Rattle.std.specs.List.{flat_map}
 use Rattle.std.proofs.lemmas.Bool.Decides.{nat_tests}
@@ -9,8 +9,8 @@ use Rattle.esc_actions.specs.Values.{Value}
 use Rattle.esc_filter.proofs.ByLine.BytesOfLines.{ends_append}
 use Rattle.esc_filter.specs.Lines.{is_line_feed}
 use Rattle.caret_notation.specs.Grown.{Grows}
-use Rattle.caret_notation.specs.Pieces.{ends_in_line, is_at_ground, is_piece, pieces_after, rest_after}
-use Rattle.caret_notation.specs.Revealed.{but_last, is_kept, piece_text, revealed_after}
+use Rattle.caret_notation.specs.Spans.{ends_in_line, is_at_ground, is_span, spans_after, rest_after}
+use Rattle.caret_notation.specs.Revealed.{but_last, is_kept, span_text, revealed_after}
 use Rattle.caret_notation.proofs.Showing.{rest_whole}
 use Rattle.caret_notation.specs.Visible.{rest_text, shown_text}
 use Rattle.caret_notation.specs.declared.marking.Marking.{Marking}
@@ -34,10 +34,10 @@ module _ (by_lines : Bool) where
       → rest_after by_lines r (x ++ y) ≡ rest_after by_lines (rest_after by_lines r x) y
   rest_append r [] y = refl
   rest_append r (b ∷ x) y =
-      by_piece (is_piece by_lines (r ++ b ∷ [])) (rest_append [] x y)
+      by_span (is_span by_lines (r ++ b ∷ [])) (rest_append [] x y)
       (rest_append (r ++ b ∷ []) x y)
     where
-      by_piece : (t : Bool)
+      by_span : (t : Bool)
           → rest_after by_lines [] (x ++ y) ≡ rest_after by_lines (rest_after by_lines [] x) y
           → rest_after by_lines (r ++ b ∷ []) (x ++ y)
           ≡ rest_after by_lines (rest_after by_lines (r ++ b ∷ []) x) y
@@ -45,30 +45,30 @@ module _ (by_lines : Bool) where
           else rest_after by_lines (r ++ b ∷ []) (x ++ y))
           ≡ rest_after by_lines
           (if t then rest_after by_lines [] x else rest_after by_lines (r ++ b ∷ []) x) y
-      by_piece true h k = h
-      by_piece false h k = k
+      by_span true h k = h
+      by_span false h k = k
 
-  pub pieces_append : (r x y : List ℕ) → pieces_after by_lines r (x ++ y)
-      ≡ pieces_after by_lines r x ++ pieces_after by_lines (rest_after by_lines r x) y
-  pieces_append r [] y = refl
-  pieces_append r (b ∷ x) y =
-      by_piece (is_piece by_lines (r ++ b ∷ [])) (pieces_append [] x y)
-      (pieces_append (r ++ b ∷ []) x y)
+  pub spans_append : (r x y : List ℕ) → spans_after by_lines r (x ++ y)
+      ≡ spans_after by_lines r x ++ spans_after by_lines (rest_after by_lines r x) y
+  spans_append r [] y = refl
+  spans_append r (b ∷ x) y =
+      by_span (is_span by_lines (r ++ b ∷ [])) (spans_append [] x y)
+      (spans_append (r ++ b ∷ []) x y)
     where
-      by_piece : (t : Bool)
-          → pieces_after by_lines [] (x ++ y)
-          ≡ pieces_after by_lines [] x ++ pieces_after by_lines (rest_after by_lines [] x) y
-          → pieces_after by_lines (r ++ b ∷ []) (x ++ y)
-          ≡ pieces_after by_lines (r ++ b ∷ []) x
-          ++ pieces_after by_lines (rest_after by_lines (r ++ b ∷ []) x) y
-          → (if t then (r ++ b ∷ []) ∷ pieces_after by_lines [] (x ++ y)
-          else pieces_after by_lines (r ++ b ∷ []) (x ++ y))
-          ≡ (if t then (r ++ b ∷ []) ∷ pieces_after by_lines [] x
-          else pieces_after by_lines (r ++ b ∷ []) x)
-          ++ pieces_after by_lines
+      by_span : (t : Bool)
+          → spans_after by_lines [] (x ++ y)
+          ≡ spans_after by_lines [] x ++ spans_after by_lines (rest_after by_lines [] x) y
+          → spans_after by_lines (r ++ b ∷ []) (x ++ y)
+          ≡ spans_after by_lines (r ++ b ∷ []) x
+          ++ spans_after by_lines (rest_after by_lines (r ++ b ∷ []) x) y
+          → (if t then (r ++ b ∷ []) ∷ spans_after by_lines [] (x ++ y)
+          else spans_after by_lines (r ++ b ∷ []) (x ++ y))
+          ≡ (if t then (r ++ b ∷ []) ∷ spans_after by_lines [] x
+          else spans_after by_lines (r ++ b ∷ []) x)
+          ++ spans_after by_lines
           (if t then rest_after by_lines [] x else rest_after by_lines (r ++ b ∷ []) x) y
-      by_piece true h k = ap (λ ps. (r ++ b ∷ []) ∷ ps) h
-      by_piece false h k = k
+      by_span true h k = ap (λ ps. (r ++ b ∷ []) ∷ ps) h
+      by_span false h k = k
 
 pub rest_none : (m : Marking) (limit : ℕ) → rest_text m limit [] ≡ []
 rest_none m limit = rest_whole m limit [] (none limit)
@@ -78,21 +78,21 @@ rest_none m limit = rest_whole m limit [] (none limit)
 
 module _ {A : Type 0} (m : Marking) (by_lines : Bool) (limit : ℕ) (admits : Value A → Bool) where
   abbrev text : List ℕ → List ℕ
-  text p = piece_text {A = A} m by_lines limit admits p
+  text p = span_text {A = A} m by_lines limit admits p
 
   abbrev all : List ℕ → List ℕ → List ℕ
   all r s = revealed_after {A = A} m by_lines limit admits r s
 
   pub all_append : (r x y : List ℕ) → all r (x ++ y)
-      ≡ flat_map text (pieces_after by_lines r x) ++ all (rest_after by_lines r x) y
+      ≡ flat_map text (spans_after by_lines r x) ++ all (rest_after by_lines r x) y
   all_append r x y =
-      let f = flat_map text (pieces_after by_lines r x) in
+      let f = flat_map text (spans_after by_lines r x) in
       let k = rest_after by_lines r x in
-      let g = flat_map text (pieces_after by_lines k y) in
+      let g = flat_map text (spans_after by_lines k y) in
       ap (λ ps. flat_map text ps ++ rest_text m limit (rest_after by_lines r (x ++ y)))
-      (pieces_append by_lines r x y)
+      (spans_append by_lines r x y)
       ∙ ap (λ t. t ++ rest_text m limit (rest_after by_lines r (x ++ y)))
-      (flat_map-append text (pieces_after by_lines r x) (pieces_after by_lines k y))
+      (flat_map-append text (spans_after by_lines r x) (spans_after by_lines k y))
       ∙ append_assoc f g (rest_text m limit (rest_after by_lines r (x ++ y)))
       ∙ ap (λ z. f ++ (g ++ rest_text m limit z)) (rest_append by_lines r x y)
 
@@ -101,7 +101,7 @@ module _ {A : Type 0} (m : Marking) (by_lines : Bool) (limit : ℕ) (admits : Va
       → Grows b c (rest_text m limit (rest_after by_lines r x)) (all (rest_after by_lines r x) y)
       → Grows a c (rest_text m limit r) (all r (x ++ y))
   grows_more r x y a b c (t, e, f) (u, g, h) =
-      let done = flat_map text (pieces_after by_lines r x) in
+      let done = flat_map text (spans_after by_lines r x) in
       let k = rest_text m limit (rest_after by_lines r x) in (
         t ++ u,
         all_append r x y ∙ ap (λ z. done ++ z) g ∙ sym (append_assoc done k u)
@@ -114,9 +114,9 @@ module _ {A : Type 0} (m : Marking) (by_lines : Bool) (limit : ℕ) (admits : Va
 
   -- ---- one byte
 
-  pub piece_ends : (r : List ℕ) (b : ℕ) → is_piece by_lines (r ++ b ∷ []) ≡ true
+  pub span_ends : (r : List ℕ) (b : ℕ) → is_span by_lines (r ++ b ∷ []) ≡ true
       → (rest_after by_lines r (b ∷ []) ≡ []) × (all r (b ∷ []) ≡ text (r ++ b ∷ []))
-  piece_ends r b h = (
+  span_ends r b h = (
     ap (λ t. if t then [] else r ++ b ∷ []) h,
     ap (λ t. flat_map text (if t then (r ++ b ∷ []) ∷ [] else [])
         ++ rest_text m limit (if t then [] else r ++ b ∷ [])) h
@@ -124,10 +124,10 @@ module _ {A : Type 0} (m : Marking) (by_lines : Bool) (limit : ℕ) (admits : Va
         ∙ append-nil (text (r ++ b ∷ []) ++ []) ∙ append-nil (text (r ++ b ∷ [])),
   )
 
-  pub piece_goes : (r : List ℕ) (b : ℕ) → is_piece by_lines (r ++ b ∷ []) ≡ false
+  pub span_goes : (r : List ℕ) (b : ℕ) → is_span by_lines (r ++ b ∷ []) ≡ false
       → (rest_after by_lines r (b ∷ []) ≡ r ++ b ∷ [])
       × (all r (b ∷ []) ≡ rest_text m limit (r ++ b ∷ []))
-  piece_goes r b h = (
+  span_goes r b h = (
     ap (λ t. if t then [] else r ++ b ∷ []) h,
     ap (λ t. flat_map text (if t then (r ++ b ∷ []) ∷ [] else [])
         ++ rest_text m limit (if t then [] else r ++ b ∷ [])) h,
@@ -152,14 +152,14 @@ feed_is by_lines b h = is_feed b (and_parts by_lines (is_line_feed b) h).1
 
 module _ {A : Type 0} (m : Marking) (by_lines : Bool) (limit : ℕ) (admits : Value A → Bool)
     (r : List ℕ) (b : ℕ) where
-  -- if a line feed ends the piece
+  -- if a line feed ends the span
   pub line_ends : (by_lines && is_line_feed b) ≡ true
       → (rest_after by_lines r (b ∷ []) ≡ [])
       × (revealed_after {A = A} m by_lines limit admits r (b ∷ []) ≡ shown_text m r ++ b ∷ [])
   line_ends h =
       let p = r ++ b ∷ [] in
       let ends = last_of by_lines r b ∙ h in
-      let one = piece_ends m by_lines limit admits r b (ap (λ t. t || is_at_ground p) ends) in (
+      let one = span_ends m by_lines limit admits r b (ap (λ t. t || is_at_ground p) ends) in (
         one.0,
         one.1
             ∙ ap (λ t. if t then shown_text m (but_last p) ++ 0x0a ∷ []
@@ -178,7 +178,7 @@ module _ {A : Type 0} (m : Marking) (by_lines : Bool) (limit : ℕ) (admits : Va
     ground_ends h =
         let p = r ++ b ∷ [] in
         let goes = last_of by_lines r b ∙ no in
-        let one = piece_ends m by_lines limit admits r b
+        let one = span_ends m by_lines limit admits r b
         (ap (λ t. t || is_at_ground p) goes ∙ h) in (
           one.0,
           one.1 ∙ ap (λ t. if t then shown_text m (but_last p) ++ 0x0a ∷ []
@@ -193,4 +193,4 @@ module _ {A : Type 0} (m : Marking) (by_lines : Bool) (limit : ℕ) (admits : Va
     goes_on h =
         let p = r ++ b ∷ [] in
         let goes = last_of by_lines r b ∙ no in
-        piece_goes m by_lines limit admits r b (ap (λ t. t || is_at_ground p) goes ∙ h)
+        span_goes m by_lines limit admits r b (ap (λ t. t || is_at_ground p) goes ∙ h)

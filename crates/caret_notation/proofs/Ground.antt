@@ -5,7 +5,7 @@ use Rattle.esc_frame.specs.Leads.{Unfinished}
 use Rattle.esc_frame.specs.Leads.Unfinished.{Ground}
 use Rattle.esc_frame.specs.Machine.Moves.{after_all, is_ground}
 use Rattle.esc_frame.specs.Stream.{IsAtGround}
-use Rattle.caret_notation.specs.Pieces.{is_at_ground}
+use Rattle.caret_notation.specs.Spans.{is_at_ground}
 
 ground_is : (u : Unfinished) → is_ground u ≡ true → u ≡ Ground
 ground_is Ground h = refl

@@ -4,10 +4,10 @@ use Rattle.std.specs.List.{flat_map}
 use Rattle.std.proofs.lemmas.Bool.{and_parts}
 use Rattle.std.proofs.lemmas.List.{append-nil}
 use Rattle.esc_actions.specs.Values.{Value}
-use Rattle.caret_notation.proofs.Cutting.{all_append, before_last, piece_ends, piece_goes}
+use Rattle.caret_notation.proofs.Cutting.{all_append, before_last, span_ends, span_goes}
 use Rattle.caret_notation.proofs.Showing.{longer_over, rest_over, rest_whole, settled_append, shown_over}
-use Rattle.caret_notation.specs.Pieces.{ends_in_line, is_piece, pieces_after, rest_after}
-use Rattle.caret_notation.specs.Revealed.{but_last, is_kept, piece_text, revealed_after, revealed_as, revealed_whole_as}
+use Rattle.caret_notation.specs.Spans.{ends_in_line, is_span, spans_after, rest_after}
+use Rattle.caret_notation.specs.Revealed.{but_last, is_kept, span_text, revealed_after, revealed_as, revealed_whole_as}
 use Rattle.caret_notation.specs.Visible.{begun_after, closing, opening, rest_text, settled_text, shown_text, stray_text}
 use Rattle.caret_notation.specs.declared.marking.Marking.{Marking}
 
@@ -63,7 +63,7 @@ module _ (m : Marking) (limit : ℕ) where
 
   module _ {A : Type 0} (by_lines : Bool) (admits : Value A → Bool) where
     abbrev text : List ℕ → List ℕ
-    text p = piece_text {A = A} m by_lines limit admits p
+    text p = span_text {A = A} m by_lines limit admits p
 
     abbrev all : List ℕ → List ℕ → List ℕ
     all r s = revealed_after {A = A} m by_lines limit admits r s
@@ -91,20 +91,20 @@ module _ (m : Marking) (limit : ℕ) where
         by_tests false false e = seen
 
     one_longer : (r : List ℕ) (b : ℕ) → Longer (rest_text m limit r) (all r (b ∷ []))
-    one_longer r b = by_piece (is_piece by_lines (r ++ b ∷ [])) refl
+    one_longer r b = by_span (is_span by_lines (r ++ b ∷ [])) refl
       where
-        by_piece : (t : Bool) → is_piece by_lines (r ++ b ∷ []) ≡ t
+        by_span : (t : Bool) → is_span by_lines (r ++ b ∷ []) ≡ t
             → Longer (rest_text m limit r) (all r (b ∷ []))
-        by_piece true e = longer_then (rest_text m limit r) (text (r ++ b ∷ [])) (all r (b ∷ []))
+        by_span true e = longer_then (rest_text m limit r) (text (r ++ b ∷ [])) (all r (b ∷ []))
             (text_longer r b) (
               [],
-              (piece_ends m by_lines limit admits r b e).1
+              (span_ends m by_lines limit admits r b e).1
                   ∙ sym (append-nil (text (r ++ b ∷ []))),
             )
-        by_piece false e = longer_then (rest_text m limit r) (rest_text m limit (r ++ b ∷ []))
+        by_span false e = longer_then (rest_text m limit r) (rest_text m limit (r ++ b ∷ []))
             (all r (b ∷ [])) (rest_longer r b) (
               [],
-              (piece_goes m by_lines limit admits r b e).1
+              (span_goes m by_lines limit admits r b e).1
                   ∙ sym (append-nil (rest_text m limit (r ++ b ∷ []))),
             )
 
@@ -113,7 +113,7 @@ module _ (m : Marking) (limit : ℕ) where
         → Longer (rest_text m limit (rest_after by_lines r x)) (all (rest_after by_lines r x) y)
         → Longer (all r x) (all r (x ++ y))
     all_then r x y (t, e) =
-        let done = flat_map text (pieces_after by_lines r x) in (
+        let done = flat_map text (spans_after by_lines r x) in (
           t,
           all_append m by_lines limit admits r x y ∙ ap (λ w. done ++ w) e
               ∙ sym (append_assoc done (rest_text m limit (rest_after by_lines r x)) t),
@@ -134,7 +134,7 @@ module _ (m : Marking) (limit : ℕ) where
         → Longer (revealed_as {A = A} m by_lines limit admits s)
         (revealed_whole_as m by_lines limit admits s)
     whole_longer s =
-        let done = flat_map text (pieces_after by_lines [] s) in
+        let done = flat_map text (spans_after by_lines [] s) in
         let k = rest_after by_lines [] s in
         let (t, e) = rest_shown k in
         (t, ap (λ w. done ++ w) e ∙ sym (append_assoc done (rest_text m limit k) t))

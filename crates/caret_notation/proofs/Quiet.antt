@@ -1,4 +1,4 @@
--- More of a piece, at most up to its end.
+-- More of a span, at most up to its end.
 use Rattle.std.proofs.Common.{ℕ, zero, suc, ◌≡◌, ◌<◌, ◌≤◌, ◌+◌, ◌-◌, ◌&&◌, ◌||◌, Bool, true, false, if◌then◌else◌, List, [], ◌∷◌, ◌++◌, length, get_or, take, drop, Option, arith, refl, ap, sym, ◌∙◌, subst, append_assoc, inl, inr}
 use Rattle.std.specs.List.{flat_map}
 use Rattle.std.proofs.lemmas.Bool.{cases_lt}
@@ -11,8 +11,8 @@ use Rattle.esc_frame.specs.Stream.{IsAtGround, IsQuietWithin}
 use Rattle.caret_notation.proofs.Cutting.{goes_on, ground_ends, last_of}
 use Rattle.caret_notation.proofs.Ground.{from_bool}
 use Rattle.caret_notation.specs.Judged.{IsQuietTo}
-use Rattle.caret_notation.specs.Pieces.{ends_in_line, is_at_ground, is_piece, pieces_after, rest_after}
-use Rattle.caret_notation.specs.Revealed.{is_kept, piece_text, revealed_after}
+use Rattle.caret_notation.specs.Spans.{ends_in_line, is_at_ground, is_span, spans_after, rest_after}
+use Rattle.caret_notation.specs.Revealed.{is_kept, span_text, revealed_after}
 use Rattle.caret_notation.specs.Runs.{IsPart, has_line_end}
 use Rattle.caret_notation.specs.Visible.{rest_text, shown_text}
 use Rattle.caret_notation.specs.declared.marking.Marking.{Marking}
@@ -128,20 +128,20 @@ module _ {A : Type 0} (m : Marking) (by_lines : Bool) (limit : ℕ) (admits : Va
   abbrev all : List ℕ → List ℕ → List ℕ
   all r s = revealed_after {A = A} m by_lines limit admits r s
 
-  -- a byte that ends no piece
-  passed_over : (r : List ℕ) (b : ℕ) (s : List ℕ) → is_piece by_lines (r ++ b ∷ []) ≡ false
+  -- a byte that ends no span
+  passed_over : (r : List ℕ) (b : ℕ) (s : List ℕ) → is_span by_lines (r ++ b ∷ []) ≡ false
       → (rest_after by_lines r (b ∷ s) ≡ rest_after by_lines (r ++ b ∷ []) s)
       × (all r (b ∷ s) ≡ all (r ++ b ∷ []) s)
   passed_over r b s h = (
     ap (λ t. if t then rest_after by_lines [] s else rest_after by_lines (r ++ b ∷ []) s) h,
-    ap (λ t. flat_map (piece_text {A = A} m by_lines limit admits)
-        (if t then (r ++ b ∷ []) ∷ pieces_after by_lines [] s
-        else pieces_after by_lines (r ++ b ∷ []) s)
+    ap (λ t. flat_map (span_text {A = A} m by_lines limit admits)
+        (if t then (r ++ b ∷ []) ∷ spans_after by_lines [] s
+        else spans_after by_lines (r ++ b ∷ []) s)
         ++ rest_text m limit (if t then rest_after by_lines [] s
         else rest_after by_lines (r ++ b ∷ []) s)) h,
   )
 
-  -- the piece has ended
+  -- the span has ended
   abbrev Ended : List ℕ → List ℕ → Type 0
   Ended r x = (rest_after by_lines r x ≡ [])
       × (all r x ≡ (if is_kept m limit admits (r ++ x) then r ++ x else shown_text m (r ++ x)))
@@ -163,7 +163,7 @@ module _ {A : Type 0} (m : Marking) (by_lines : Bool) (limit : ℕ) (admits : Va
       by_both true true g h = h
       by_both true false g h = refl
 
-  makes_more : (r : List ℕ) (b : ℕ) (s : List ℕ) → is_piece by_lines (r ++ b ∷ []) ≡ false
+  makes_more : (r : List ℕ) (b : ℕ) (s : List ℕ) → is_span by_lines (r ++ b ∷ []) ≡ false
       → Makes (r ++ b ∷ []) s → Makes r (b ∷ s)
   makes_more r b s h (ends, goes) =
       let step = passed_over r b s h in

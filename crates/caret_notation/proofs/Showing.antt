@@ -89,7 +89,7 @@ module _ {A : Type 0} (m : Marking) (limit : ℕ) (r : List ℕ) (k : Kept A) (t
             ∙ append_assoc t0 stray (closing m),
       )
 
-  pub shows_whole : KeepsBy limit r k false → t1 ≡ t0 ++ shown_text m k.piece.items
+  pub shows_whole : KeepsBy limit r k false → t1 ≡ t0 ++ shown_text m k.span.items
       → Grows t0 t1 (rest_text m limit r) (shown_text m r)
   shows_whole h e = (
     shown_text m r,
@@ -98,12 +98,12 @@ module _ {A : Type 0} (m : Marking) (limit : ℕ) (r : List ℕ) (k : Kept A) (t
   )
 
   whole_by : (b : Bool) → KeepsBy limit r k b → nat_le (length r) limit ≡ true
-      → k.piece.items ≡ r
+      → k.span.items ≡ r
   whole_by false h e = h.1
   whole_by true h e = absurd cc
 
   pub writes_whole : Keeps limit r k → nat_le (length r) limit ≡ true
-      → t1 ≡ t0 ++ k.piece.items → Grows t0 t1 (rest_text m limit r) r
+      → t1 ≡ t0 ++ k.span.items → Grows t0 t1 (rest_text m limit r) r
   writes_whole h l e = (
     r,
     ap (λ x. x ++ r) (sym (rest_whole m limit r l)),
@@ -131,9 +131,9 @@ module _ {A : Type 0} (m : Marking) (limit : ℕ) (r : List ℕ) (k : Kept A) (t
 
     -- if they were kept whole, and are not any more
     pub overflows : Keeps limit r k → k.is_over ≡ false → limit < length r + length x
-        → (f to tm : List ℕ) → f ≡ begun_after [] k.piece.items
+        → (f to tm : List ℕ) → f ≡ begun_after [] k.span.items
         → prefix_of new.begun ≡ begun_after f x → to ≡ t0 ++ opening m
-        → tm ≡ to ++ settled_text [] k.piece.items → t1 ≡ tm ++ settled_text f x
+        → tm ≡ to ++ settled_text [] k.span.items → t1 ≡ tm ++ settled_text f x
         → KeepsBy limit (r ++ x) new true
         × Grows t0 t1 (rest_text m limit r) (rest_text m limit (r ++ x))
     overflows h kept long f to tm begun p o d e =
@@ -157,8 +157,8 @@ module _ {A : Type 0} (m : Marking) (limit : ℕ) (r : List ℕ) (k : Kept A) (t
         )
 
     -- if they are kept whole
-    pub extends_whole : KeepsBy limit r k false → length k.piece.items + length x ≤ limit
-        → new.piece.items ≡ k.piece.items ++ x
+    pub extends_whole : KeepsBy limit r k false → length k.span.items + length x ≤ limit
+        → new.span.items ≡ k.span.items ++ x
         → KeepsBy limit (r ++ x) new false
         × Grows t0 t0 (rest_text m limit r) (rest_text m limit (r ++ x))
     extends_whole h few e =
@@ -173,6 +173,6 @@ module _ {A : Type 0} (m : Marking) (limit : ℕ) (r : List ℕ) (k : Kept A) (t
         )
 
     -- the count of the bytes that are kept
-    pub long_of : KeepsBy limit r k false → limit < length k.piece.items + length x
+    pub long_of : KeepsBy limit r k false → limit < length k.span.items + length x
         → limit < length r + length x
     long_of h l = subst (λ y. limit < length y + length x) h.1 l

@@ -11,8 +11,8 @@ use Rattle.caret_notation.proofs.Quiet.{part_makes}
 use Rattle.caret_notation.proofs.Texts.{admitted_stays}
 use Rattle.caret_notation.specs.Fed.{AtRest, GrowsBy, closed_text}
 use Rattle.caret_notation.specs.Grown.{Grows}
-use Rattle.caret_notation.specs.Pieces.{is_at_ground, pieces, rest, rest_after}
-use Rattle.caret_notation.specs.Revealed.{are_kept, piece_text, revealed_as, revealed_whole_as}
+use Rattle.caret_notation.specs.Spans.{is_at_ground, spans, rest, rest_after}
+use Rattle.caret_notation.specs.Revealed.{are_kept, span_text, revealed_as, revealed_whole_as}
 use Rattle.caret_notation.specs.Runs.{IsAdmittedText, IsPart}
 use Rattle.caret_notation.specs.Visible.{lets_stay, rest_text, shown_text}
 use Rattle.caret_notation.specs.Spelled.{is_spelled}
@@ -33,7 +33,7 @@ module _ {P A : Type 0} (V : Admitter P A) (rule : Rule P) (r : List ℕ) (b : �
   abbrev admits : Value A → Bool
   admits v = V.admits rule.policy v
 
-  -- a line feed that ends a piece
+  -- a line feed that ends a span
   pub line_grows : (rule.by_lines && is_line_feed b) ≡ true
       → Grows t0 t1 (rest_text rule.marking rule.limit r) (shown_text rule.marking r) → t2 ≡ t1 ++ b
       ∷ []
@@ -49,7 +49,7 @@ module _ {P A : Type 0} (V : Admitter P A) (rule : Rule P) (r : List ℕ) (b : �
         ),
       )
 
--- more of a piece, at most up to its end
+-- more of a span, at most up to its end
 module _ {P A : Type 0} (V : Admitter P A) (rule : Rule P) (r x : List ℕ)
     (new : Reveal P A) (t0 t1 : List ℕ) (part : IsPart rule.by_lines r x) where
   abbrev admitted : Value A → Bool
@@ -79,7 +79,7 @@ module _ {P A : Type 0} (V : Admitter P A) (rule : Rule P) (r x : List ℕ)
         subst (Grows t0 t1 (rest_text rule.marking rule.limit r)) (sym goes.1) grown,
       )
 
--- a piece that came at once
+-- a span that came at once
 module _ {P A : Type 0} (V : Admitter P A) (rule : Rule P) (x : List ℕ) where
   abbrev passing : Value A → Bool
   passing v = V.admits rule.policy v
@@ -154,8 +154,8 @@ module _ {P A : Type 0} (V : Admitter P A) (rule : Rule P) where
       → GrowsBy V rule (rest rule.by_lines s) b [] t new
       → AtRest (rest rule.by_lines (s ++ b)) new × (Text (s ++ b) ≡ Text s ++ t)
   adds_all s b t new (at, (u, e, f)) =
-      let done = flat_map (piece_text rule.marking rule.by_lines rule.limit allows)
-      (pieces rule.by_lines s) in
+      let done = flat_map (span_text rule.marking rule.by_lines rule.limit allows)
+      (spans rule.by_lines s) in
       let m = rest_text rule.marking rule.limit (rest rule.by_lines s) in (
         subst (λ z. AtRest z new) (sym (rest_append rule.by_lines [] s b)) at,
         all_append rule.marking rule.by_lines rule.limit allows [] s b ∙ ap (λ z. done ++ z) e
@@ -167,7 +167,7 @@ module _ {P A : Type 0} (V : Admitter P A) (rule : Rule P) where
       (shown_text rule.marking (rest rule.by_lines s))
       → revealed_whole_as {A = A} rule.marking rule.by_lines rule.limit allows s ≡ Text s ++ t
   ends_all s t (u, e, f) =
-      let done = flat_map (piece_text rule.marking rule.by_lines rule.limit allows)
-      (pieces rule.by_lines s) in
+      let done = flat_map (span_text rule.marking rule.by_lines rule.limit allows)
+      (spans rule.by_lines s) in
       let m = rest_text rule.marking rule.limit (rest rule.by_lines s) in
       ap (λ z. done ++ z) e ∙ sym (append_assoc done m u) ∙ ap (λ z. (done ++ m) ++ z) (sym f)

@@ -1,4 +1,4 @@
--- Characters, each of which is a piece by itself.
+-- Characters, each of which is a span by itself.
 use Rattle.std.proofs.Common.{ℕ, ◌≡◌, ◌<◌, ◌≤◌, ◌-◌, ◌&&◌, ◌||◌, not, inl, inr, Bool, true, false, nat_le, if◌then◌else◌, List, [], ◌∷◌, ◌++◌, length, take, Some, arith, refl, ap, sym, ◌∙◌, subst}
 use Rattle.std.specs.Char.{encode_utf8}
 use Rattle.std.specs.List.{flat_map, list_all, list_any}
@@ -27,8 +27,8 @@ use Rattle.caret_notation.proofs.Cutting.{all_append, rest_append, rest_none}
 use Rattle.caret_notation.proofs.Parts.{AreHigh}
 use Rattle.caret_notation.proofs.Quiet.{part_makes}
 use Rattle.caret_notation.proofs.Reading.{sequence_high}
-use Rattle.caret_notation.specs.Pieces.{is_at_ground, pieces_after, rest_after}
-use Rattle.caret_notation.specs.Revealed.{are_kept, is_kept, piece_text, revealed_after}
+use Rattle.caret_notation.specs.Spans.{is_at_ground, spans_after, rest_after}
+use Rattle.caret_notation.specs.Revealed.{are_kept, is_kept, span_text, revealed_after}
 use Rattle.caret_notation.specs.Runs.{IsAdmittedText, IsPart, has_line_end}
 use Rattle.caret_notation.specs.Visible.{is_mark, lets_stay, rest_text, shown_text}
 use Rattle.caret_notation.specs.declared.marking.Marking.{Marking}
@@ -165,7 +165,7 @@ module _ {A : Type 0} (m : Marking) (by_lines : Bool) (limit : ℕ) (admits : Va
 
   both_stay : (x y : List ℕ) → Stays x → Stays y → Stays (x ++ y)
   both_stay x y one more =
-      let done = flat_map (piece_text m by_lines limit admits) (pieces_after by_lines [] x) in
+      let done = flat_map (span_text m by_lines limit admits) (spans_after by_lines [] x) in
       let first : done ≡ x =
       sym (append-nil done) ∙ ap (λ z. done ++ z) (sym (rest_none m limit))
       ∙ ap (λ z. done ++ rest_text m limit z) (sym one.0) ∙ one.1 in (

@@ -3,7 +3,7 @@ use Rattle.std.specs.Prelude.{ℕ, ◌≡◌, ◌<◌, ◌≤◌, Bool, true, fa
 use Rattle.esc_filter.specs.declared.admit.Admit.{Ghosts as Admitter}
 use Rattle.esc_frame.specs.Stream.{HasConsumedWithin}
 use Rattle.caret_notation.specs.Grown.{Grows, Keeps}
-use Rattle.caret_notation.specs.Pieces.{rest, rest_after}
+use Rattle.caret_notation.specs.Spans.{rest, rest_after}
 use Rattle.caret_notation.specs.Revealed.{is_kept, revealed_after, revealed_as, revealed_whole_as}
 use Rattle.caret_notation.specs.Visible.{rest_text, shown_text}
 use Rattle.caret_notation.specs.declared.marking.Marking.{Marking}
@@ -28,13 +28,13 @@ by_lines_of f = f.rule.by_lines
 abbrev pub added_by : {P A : Type 0} → Reveal P A → List ℕ
 added_by f = f.text.items
 
--- r is the unfinished rest of a piece
+-- r is the unfinished rest of a span
 pub record AtRest {P A : Type 0} (r : List ℕ) (f : Reveal P A) : Type 0 where
   pub unfailed : f.has_failed ≡ false
   pub framed : HasConsumedWithin (Some f.rule.limit) r f.framer
   pub kept : Keeps f.rule.limit r f.kept
 
--- r is the unfinished rest of a piece, and x came after it, which is framed and not kept yet
+-- r is the unfinished rest of a span, and x came after it, which is framed and not kept yet
 pub record IsFramed {P A : Type 0} (r x : List ℕ) (f : Reveal P A) : Type 0 where
   pub unfailed : f.has_failed ≡ false
   pub framed : HasConsumedWithin (Some f.rule.limit) (r ++ x) f.framer
@@ -72,7 +72,7 @@ FailsForGood old result new = (old.has_failed ≡ true → is_ok result ≡ fals
 abbrev pub Holds : {P A : Type 0} → List ℕ → List ℕ → List ℕ → Reveal P A → Reveal P A → Type 0
 Holds r before after old new = AtRest r new × Grows (added_by old) (added_by new) before after
 
--- the text of a piece that no line feed ends
+-- the text of a span that no line feed ends
 abbrev pub closed_text : {P A : Type 0} → Admitter P A → Rule P → List ℕ → List ℕ
 closed_text {A = A} V rule p =
     if is_kept {A = A} rule.marking rule.limit (V.admits rule.policy) p then p
@@ -86,9 +86,9 @@ GrowsBy {A = A} V rule r b told tnew new =
     × Grows told tnew (rest_text rule.marking rule.limit r)
     (revealed_after {A = A} rule.marking rule.by_lines rule.limit (V.admits rule.policy) r b)
 
--- r is the unfinished rest of a piece, and is empty
-abbrev pub AtPieceEnd : {P A : Type 0} → List ℕ → Reveal P A → Type 0
-AtPieceEnd r f = (r ≡ []) × AtRest r f
+-- r is the unfinished rest of a span, and is empty
+abbrev pub AtSpanEnd : {P A : Type 0} → List ℕ → Reveal P A → Type 0
+AtSpanEnd r f = (r ≡ []) × AtRest r f
 
 abbrev pub GrowsTo : {P A : Type 0} → Admitter P A → List ℕ → List ℕ → Reveal P A → Reveal P A
     → Type 0

@@ -1,4 +1,4 @@
--- The rest that a piece leaves that has not ended, and texts that grew.
+-- The rest that a span leaves that has not ended, and texts that grew.
 use Rattle.std.specs.Prelude.{ℕ, ◌≡◌, Bool, true, false, nat_le, List, [], ◌++◌, length}
 use Rattle.esc_frame.specs.Machine.Prefixes.{prefix_of}
 use Rattle.caret_notation.specs.Visible.{begun_after}
@@ -11,7 +11,7 @@ Grows old new before after =
 
 -- the bytes r are kept whole; or they are over the limit, and the begun bytes at their end are kept
 abbrev pub KeepsBy : {A : Type 0} → ℕ → List ℕ → Kept A → Bool → Type 0
-KeepsBy limit r k false = (nat_le (length r) limit ≡ true) × (k.piece.items ≡ r)
+KeepsBy limit r k false = (nat_le (length r) limit ≡ true) × (k.span.items ≡ r)
 KeepsBy limit r k true =
     (nat_le (length r) limit ≡ false) × (prefix_of k.begun ≡ begun_after [] r)
 

@@ -8,7 +8,7 @@ use Rattle.esc_frame.specs.Stream.{HasConsumedWithin, events_within}
 use Rattle.esc_frame.specs.declared.parser.VTParser.{VTParser}
 use Rattle.esc_parse.specs.Fed.{Hooks}
 use Rattle.esc_parse.specs.declared.performer.Performer.{Performer}
-use Rattle.caret_notation.specs.Pieces.{is_at_ground}
+use Rattle.caret_notation.specs.Spans.{is_at_ground}
 use Rattle.caret_notation.specs.Revealed.{are_kept, goes_through}
 use Rattle.caret_notation.specs.declared.judge.Judge.{Judge}
 use Rattle.caret_notation.specs.declared.judge.Verdict.{Verdict}
@@ -53,13 +53,13 @@ pub record HasJudged {P A : Type 0} (V : Admitter P A) (limit : ℕ) (s : List �
 abbrev pub IsQuietTo : ℕ → List ℕ → Type 0
 IsQuietTo n s = (k : ℕ) → 0 < k → k < n → is_at_ground (take k s) ≡ false
 
--- Some of the bytes b, which come first in a piece, were judged: their number, and whether they
+-- Some of the bytes b, which come first in a span, were judged: their number, and whether they
 -- mean something, all of which passes.
 pub record HasJudgedSome {P A : Type 0} (V : Admitter P A) (policy : P) (limit : ℕ) (b : List ℕ)
     (framer : VTParser A) (verdict : ℕ × Bool) : Type 0 where
   -- they were framed
   pub framed : HasConsumedWithin (Some limit) (take verdict.0 b) framer
-  -- no fewer of them end the piece
+  -- no fewer of them end the span
   pub quiet : IsQuietTo verdict.0 b
   -- and this is their meaning
   pub judged : verdict.1

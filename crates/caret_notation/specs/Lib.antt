@@ -2,7 +2,7 @@ pub mod Spelled
 pub mod Fed
 pub mod Grown
 pub mod Judged
-pub mod Pieces
+pub mod Spans
 pub mod ReadBack
 pub mod Revealed
 pub mod Runs

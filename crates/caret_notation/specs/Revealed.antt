@@ -1,11 +1,11 @@
--- A stream in which each piece that is not admitted is shown as visible text.
+-- A stream in which each span that is not admitted is shown as visible text.
 use Rattle.std.specs.Prelude.{ℕ, Bool, true, false, ◌&&◌, nat_le, if◌then◌else◌, List, [], ◌∷◌, ◌++◌, Some, length}
 use Rattle.std.specs.List.{flat_map}
 use Rattle.esc_actions.specs.Meaning.{meaning_within}
 use Rattle.esc_actions.specs.Texts.{is_string, is_terminator, list_text}
 use Rattle.esc_actions.specs.Values.{Value}
 use Rattle.esc_filter.specs.Passing.{passes}
-use Rattle.caret_notation.specs.Pieces.{ends_in_line, pieces, pieces_after, rest, rest_after}
+use Rattle.caret_notation.specs.Spans.{ends_in_line, spans, spans_after, rest, rest_after}
 use Rattle.caret_notation.specs.Visible.{lets_stay, rest_text, shown_text}
 use Rattle.caret_notation.specs.declared.marking.Marking.{Marking}
 use Rattle.caret_notation.specs.declared.marking.Marking.TheVariants as marking
@@ -29,7 +29,7 @@ is_some (_ ∷ _) = true
 abbrev pub are_kept : {A : Type 0} → (Value A → Bool) → List (Value A) → Bool
 are_kept admits vs = is_some vs && all_through admits false vs
 
--- holds of a piece that stays as it is: of at most so many bytes, without marks if these are shown;
+-- holds of a span that stays as it is: of at most so many bytes, without marks if these are shown;
 -- it means values, each of which passes; and all of its bytes are in the text of these
 abbrev pub is_kept : {A : Type 0} → Marking → ℕ → (Value A → Bool) → List ℕ → Bool
 is_kept {A = A} m limit admits p =
@@ -43,10 +43,10 @@ but_last [] = []
 but_last (b ∷ []) = []
 but_last (b ∷ c ∷ s) = b ∷ but_last (c ∷ s)
 
--- The text of a piece: the piece itself, or its visible text. A line feed that ends one is written,
--- and the part of the piece before it was unfinished.
-abbrev pub piece_text : {A : Type 0} → Marking → Bool → ℕ → (Value A → Bool) → List ℕ → List ℕ
-piece_text m by_lines limit admits p =
+-- The text of a span: the span itself, or its visible text. A line feed that ends one is written,
+-- and the part of the chunk before it was unfinished.
+abbrev pub span_text : {A : Type 0} → Marking → Bool → ℕ → (Value A → Bool) → List ℕ → List ℕ
+span_text m by_lines limit admits p =
     if ends_in_line by_lines p then shown_text m (but_last p) ++ 0x0a ∷ []
     else if is_kept m limit admits p then p else shown_text m p
 
@@ -54,7 +54,7 @@ piece_text m by_lines limit admits p =
 abbrev pub revealed_after : {A : Type 0} → Marking → Bool → ℕ → (Value A → Bool) → List ℕ → List ℕ
     → List ℕ
 revealed_after m by_lines limit admits r s =
-    flat_map (piece_text m by_lines limit admits) (pieces_after by_lines r s)
+    flat_map (span_text m by_lines limit admits) (spans_after by_lines r s)
     ++ rest_text m limit (rest_after by_lines r s)
 
 -- A stream that goes on, and one that has ended, whose rest is shown.
@@ -64,7 +64,7 @@ revealed_as m by_lines limit admits s = revealed_after m by_lines limit admits [
 abbrev pub revealed_whole_as : {A : Type 0} → Marking → Bool → ℕ → (Value A → Bool) → List ℕ
     → List ℕ
 revealed_whole_as m by_lines limit admits s =
-    flat_map (piece_text m by_lines limit admits) (pieces by_lines s)
+    flat_map (span_text m by_lines limit admits) (spans by_lines s)
     ++ shown_text m (rest by_lines s)
 
 -- the same if shown text is not told from other text

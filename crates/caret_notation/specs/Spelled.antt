@@ -1,4 +1,4 @@
--- Whether all of a piece is in the text of its meaning.
+-- Whether all of a span is in the text of its meaning.
 use Rattle.std.specs.Prelude.{ℕ, ◌+◌, ◌-◌, nat_le, nat_lt, Bool, true, false, ◌&&◌, ◌||◌, ◌==◌, if◌then◌else◌, List, [], ◌∷◌, Option, Some, None, length, take, drop, get_or, slice_range, bytes_eq}
 use Rattle.esc_values.specs.Params.{is_body_byte, is_digit, is_final}
 

@@ -75,7 +75,7 @@ visible_text s = settled_text [] s ++ stray_text (begun_after [] s)
 
 -- ---- text that is told from other text
 
--- a piece of these bytes may stay: if marks are shown, one without any
+-- a span of these bytes may stay: if marks are shown, one without any
 abbrev pub lets_stay : Marking → List ℕ → Bool
 lets_stay marking.Plain p = true
 lets_stay marking.Escaped p = not (list_any is_mark p)
@@ -97,7 +97,7 @@ abbrev pub shown_text : Marking → List ℕ → List ℕ
 shown_text m [] = []
 shown_text m (b ∷ p) = opening m ++ (visible_text (b ∷ p) ++ closing m)
 
--- nothing is written for a piece that has not ended, until it is longer than the limit: then it
+-- nothing is written for a span that has not ended, until it is longer than the limit: then it
 -- cannot be kept
 abbrev pub rest_text : Marking → ℕ → List ℕ → List ℕ
 rest_text m limit r = if nat_le (length r) limit then [] else opening m ++ settled_text [] r

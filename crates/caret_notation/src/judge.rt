@@ -1,4 +1,4 @@
-//! This module says whether a piece of a stream is kept.
+//! This module says whether a span of a stream is kept.
 ghost use Rattle.std.specs.Prelude.{◌≡◌, ◌&&◌, ◌++◌, ◌<◌, ◌≤◌, ℕ, List, [], IfOk, IfSome, OnErr, OnOk, Some, false, length, take};
 ghost use Rattle.esc_actions.specs.Values.{plain, value_of};
 ghost use Rattle.esc_frame.specs.Stream.{IsQuietWithin, HasConsumedWithin};
@@ -55,7 +55,7 @@ impl Verdict {
         }
     }
 
-    // Returns whether a piece with these actions may stay.
+    // Returns whether a span with these actions may stay.
     fn keeps(self) -> bool
         ensures { result ≡ (self.some && self.all) }
     {
@@ -152,10 +152,10 @@ fn unasked<P, A: Allocator + Copy>(alloc: A, policy: &P, limit: usize) -> Perfor
     }
 }
 
-/// Frames the bytes that come first, if no segment is unfinished, up to the end of a piece or to
+/// Frames the bytes that come first, if no segment is unfinished, up to the end of a span or to
 /// the last byte, and asks the policy about their meaning. It returns their number, and whether
 /// they mean something, all of which passes.
-pub(crate) fn judge_piece<P: Admit<A>, A: Allocator + Copy>(
+pub(crate) fn judge_span<P: Admit<A>, A: Allocator + Copy>(
     alloc: A,
     framer: &mut VTParser<A>,
     policy: &P,
@@ -238,46 +238,46 @@ fn judge_all<P: Admit<A>, A: Allocator + Copy>(
     }
 }
 
-/// Returns whether the piece, which the framer was fed, stays: each value that it means goes
+/// Returns whether the span, which the framer was fed, stays: each value that it means goes
 /// through, and all of its bytes are in the text of these. The framer was fed it again.
 pub(crate) fn stays_spelled<P: Admit<A>, A: Allocator + Copy>(
     alloc: A,
     framer: &mut VTParser<A>,
     policy: &P,
     limit: usize,
-    piece: &[u8],
+    span: &[u8],
 ) -> Result<bool, AllocError>
-    ensures kept { HasConsumedWithin (Some limit) piece.now framer.old → IfOk result
-        (λ k. HasConsumedWithin (Some limit) piece.now framer.new × (k
-        ≡ (are_kept (P.admits policy.now) (meaning_within (Some limit) piece.now)
-        && is_spelled piece.now (normal_form A (Some limit) piece.now)))) }
-    ensures refused { HasConsumedWithin (Some limit) piece.now framer.old
+    ensures kept { HasConsumedWithin (Some limit) span.now framer.old → IfOk result
+        (λ k. HasConsumedWithin (Some limit) span.now framer.new × (k
+        ≡ (are_kept (P.admits policy.now) (meaning_within (Some limit) span.now)
+        && is_spelled span.now (normal_form A (Some limit) span.now)))) }
+    ensures refused { HasConsumedWithin (Some limit) span.now framer.old
         → OnErr result (Refused A) }
 {
-    let keeps = stays(alloc, framer, policy, limit, piece)?;
+    let keeps = stays(alloc, framer, policy, limit, span)?;
     if keeps {
-        is_spelled(alloc, limit, piece)
+        is_spelled(alloc, limit, span)
     } else {
         Ok(false)
     }
 }
 
-// Returns whether the piece means values, and each of them goes through.
+// Returns whether the span means values, and each of them goes through.
 fn stays<P: Admit<A>, A: Allocator + Copy>(
     alloc: A,
     framer: &mut VTParser<A>,
     policy: &P,
     limit: usize,
-    piece: &[u8],
+    span: &[u8],
 ) -> Result<bool, AllocError>
-    ensures kept { HasConsumedWithin (Some limit) piece.now framer.old → IfOk result
-        (λ k. HasConsumedWithin (Some limit) piece.now framer.new
-        × (k ≡ are_kept (P.admits policy.now) (meaning_within (Some limit) piece.now))) }
-    ensures refused { HasConsumedWithin (Some limit) piece.now framer.old
+    ensures kept { HasConsumedWithin (Some limit) span.now framer.old → IfOk result
+        (λ k. HasConsumedWithin (Some limit) span.now framer.new
+        × (k ≡ are_kept (P.admits policy.now) (meaning_within (Some limit) span.now))) }
+    ensures refused { HasConsumedWithin (Some limit) span.now framer.old
         → OnErr result (Refused A) }
 {
     framer.restart();
     let mut performer = unasked(alloc, policy, limit);
-    judge_all(framer, &mut performer, piece)?;
+    judge_all(framer, &mut performer, span)?;
     Ok(performer.sink.verdict.keeps())
 }

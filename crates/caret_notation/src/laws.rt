@@ -1,4 +1,4 @@
-//! Laws of visible text and of pieces.
+//! Laws of visible text and of spans.
 ghost use Rattle.std.specs.Prelude.{◌≡◌, ◌++◌, ◌↔◌, ℕ, Bool, List, Option, Some, false, true};
 ghost use Rattle.std.specs.List.{flat_map, list_all, list_any};
 ghost use Rattle.unicode_visibility.specs.Characters.{is_shown};
@@ -7,7 +7,7 @@ ghost use Rattle.esc_actions.specs.Meaning.{meaning_within};
 ghost use Rattle.esc_actions.specs.Values.{Value, print};
 ghost use Rattle.esc_filter.specs.Passing.{passed_text};
 ghost use Rattle.esc_frame.specs.Stream.{IsAtGround};
-ghost use Rattle.caret_notation.specs.Pieces.{is_at_ground, pieces, rest};
+ghost use Rattle.caret_notation.specs.Spans.{is_at_ground, spans, rest};
 ghost use Rattle.caret_notation.specs.ReadBack.{is_byte, read_back};
 ghost use Rattle.caret_notation.specs.Revealed.{is_kept, revealed_whole, revealed_whole_as};
 ghost use Rattle.caret_notation.specs.Spelled.{is_spelled};
@@ -30,25 +30,25 @@ pub fn shows_characters()
     ensures { (s : List ℕ) → list_all is_byte s ≡ true → IsTextOf is_shown (visible_text s) }
 {}
 
-/// A piece ends at a place with no segment of the stream unfinished.
+/// A span ends at a place with no segment of the stream unfinished.
 #[tactic(auto, using(crate::proofs::Means::ground_both))]
-pub fn pieces_end_at_ground()
+pub fn spans_end_at_ground()
     ensures { (s : List ℕ) → (is_at_ground s ≡ true) ↔ IsAtGround s }
 {}
 
-/// The pieces of a stream, one after another, and its rest are the stream.
+/// The spans of a stream, one after another, and its rest are the stream.
 #[tactic(auto, using(crate::proofs::Means::together))]
-pub fn pieces_are_all()
+pub fn spans_are_all()
     ensures { (by_lines : Bool) (s : List ℕ)
-        → flat_map (λ p. p) (pieces by_lines s) ++ rest by_lines s ≡ s }
+        → flat_map (λ p. p) (spans by_lines s) ++ rest by_lines s ≡ s }
 {}
 
-/// A stream means the values of its pieces, each a stream of its own, and of its rest. So showing
-/// one piece does not change the meaning of another.
-#[tactic(auto, using(crate::proofs::Means::means_pieces))]
-pub fn pieces_are_streams<A: Allocator>()
+/// A stream means the values of its spans, each a stream of its own, and of its rest. So showing
+/// one span does not change the meaning of another.
+#[tactic(auto, using(crate::proofs::Means::means_spans))]
+pub fn spans_are_streams<A: Allocator>()
     ensures { (limit : Option ℕ) (s : List ℕ) → meaning_within {A = A} limit s
-        ≡ flat_map (meaning_within limit) (pieces false s) ++ meaning_within limit (rest false s) }
+        ≡ flat_map (meaning_within limit) (spans false s) ++ meaning_within limit (rest false s) }
 {}
 
 /// The revealed text of a stream that has ended, if marks are shown, can be read back as the
@@ -68,8 +68,8 @@ pub fn unmarked_reads_back<A: Allocator>()
         → read_back (revealed_whole by_lines limit admits s) ≡ s }
 {}
 
-/// All bytes of a piece that stays are in the text that a filter writes for it: that is the piece,
-/// or the piece with another end of its string, or another spelling of a control sequence.
+/// All bytes of a span that stays are in the text that a filter writes for it: that is the span,
+/// or the span with another end of its string, or another spelling of a control sequence.
 #[tactic(auto, using(crate::proofs::Written::kept_written))]
 pub fn kept_is_written<A: Allocator>()
     ensures { (m : Way) (limit : ℕ) (admits : Value A → Bool) (p : List ℕ)

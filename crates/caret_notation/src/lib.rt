@@ -1,7 +1,7 @@
 //! Actions that a filter would not admit, shown in place.
 //!
 //! A filter that drops all that it does not admit loses the very parts for which people read a log.
-//! [`Reveal`] rewrites a stream before it is filtered: each piece of it that a policy does not
+//! [`Reveal`] rewrites a stream before it is filtered: each span of it that a policy does not
 //! admit becomes visible text, in the notation of `less` and `cat -v`, and the rest stays as it
 //! came.
 //!
@@ -25,7 +25,7 @@ mod text;
 mod visible;
 
 pub use laws::{
-    escaped_reads_back, kept_is_written, pieces_are_all, pieces_are_streams, pieces_end_at_ground,
+    escaped_reads_back, kept_is_written, spans_are_all, spans_are_streams, spans_end_at_ground,
     read_back, shown_is_written, shows_characters, unmarked_reads_back,
 };
 pub use marking::Marking;

@@ -18,12 +18,12 @@ pub enum Marking {
 }
 
 impl Marking {
-    /// Returns whether a piece of these bytes may stay.
-    pub(crate) fn lets_stay(self, piece: &[u8]) -> bool
-        ensures { result ≡ lets_stay self piece.now }
+    /// Returns whether a span of these bytes may stay.
+    pub(crate) fn lets_stay(self, span: &[u8]) -> bool
+        ensures { result ≡ lets_stay self span.now }
     {
         match self {
-            Marking::Escaped => !has_mark(piece),
+            Marking::Escaped => !has_mark(span),
             Marking::Plain | Marking::Reversed => true,
         }
     }

@@ -8,7 +8,7 @@ ghost use Rattle.caret_notation.specs.Visible.{lets_stay, rest_text, shown_text}
 ghost use Rattle.caret_notation.specs.declared.reveal.TheConstants.{MOST_BYTES};
 ghost use Rattle.fallible_alloc.specs.Refusals.{Refused};
 
-use crate::judge::{judge_piece, stays_spelled};
+use crate::judge::{judge_span, stays_spelled};
 use crate::kept::Kept;
 use crate::marking::Marking;
 use crate::shown::push_shown;
@@ -23,34 +23,34 @@ use std::alloc::{AllocError, Allocator, Global};
 // Says how many bytes a character has at most.
 const MOST_BYTES: usize = 4;
 
-/// The rule for a stream: the length of the longest piece, whether a line feed ends one, and the
+/// The rule for a stream: the length of the longest span, whether a line feed ends one, and the
 /// actions that are admitted.
 #[derive(Drop)]
 pub(crate) struct Rule<P> {
     /// The policy that admits actions.
     pub policy: P,
-    /// Says how many bytes a piece that is kept has at most.
+    /// Says how many bytes a span that is kept has at most.
     pub limit: usize,
-    /// Says whether a line feed ends a piece.
+    /// Says whether a line feed ends a span.
     pub by_lines: bool,
     /// The way in which shown text is told from text that stays.
     pub marking: Marking,
 }
 
-/// Takes a stream in any pieces, and gives for each the text that it adds: the stream itself, but
+/// Takes a stream in any chunks, and gives for each the text that it adds: the stream itself, but
 /// with visible text for the actions that a policy does not admit, as
 /// [`push_visible`](crate::push_visible) writes it.
 ///
 /// The stream is cut at each place with no segment unfinished, so a string and its terminator are
-/// one piece. A piece stays as it is if it means something, each of its actions passes a filter of
-/// the policy, and the filter writes for them the piece itself, or the same with `ESC \` in the
+/// one span. A span stays as it is if it means something, each of its actions passes a filter of
+/// the policy, and the filter writes for them the span itself, or the same with `ESC \` in the
 /// place of the BEL that ends a string. A control sequence with no control in it stays also if its
-/// numbers and renditions are spelled otherwise. Any other piece is shown whole. One that is longer
+/// numbers and renditions are spelled otherwise. Any other span is shown whole. One that is longer
 /// than the limit is shown as it comes, and so is, at the end of the stream, one that has not
-/// ended. If `by_lines`, a line feed always ends a piece: it stays, and the unfinished part before
+/// ended. If `by_lines`, a line feed always ends a span: it stays, and the unfinished part before
 /// it is shown.
 ///
-/// It keeps the piece of the stream that has not ended, at most the limit, and as much of a segment
+/// It keeps the span of the stream that has not ended, at most the limit, and as much of a segment
 /// that has not ended as a [`VTParser`](esc_frame::VTParser) of this limit.
 #[derive(Drop)]
 pub struct Reveal<P, A: Allocator = Global> {
@@ -64,9 +64,9 @@ pub struct Reveal<P, A: Allocator = Global> {
 }
 
 impl<P: Admit<A>, A: Allocator + Copy> Reveal<P, A> {
-    ghost use Rattle.caret_notation.specs.Fed.{AddsTo, AtPieceEnd, AtRest, EndsAs, FailsForGood, GrowsTo, Holds, IsFramed, TakesSome, HasConsumed, added_by, by_lines_of, closed_text, limit_of, marking_of, policy_of};
+    ghost use Rattle.caret_notation.specs.Fed.{AddsTo, AtSpanEnd, AtRest, EndsAs, FailsForGood, GrowsTo, Holds, IsFramed, TakesSome, HasConsumed, added_by, by_lines_of, closed_text, limit_of, marking_of, policy_of};
 
-    /// Returns a writer at the beginning of a stream, which keeps a piece of at most `limit` bytes.
+    /// Returns a writer at the beginning of a stream, which keeps a span of at most `limit` bytes.
     /// Takes no memory.
     pub fn new(alloc: A, limit: usize, policy: P, by_lines: bool) -> Reveal<P, A>
         ensures fed { HasConsumed [] result }
@@ -132,7 +132,7 @@ impl<P: Admit<A>, A: Allocator + Copy> Reveal<P, A> {
         }
     }
 
-    /// Ends the stream, and begins the next. The visible text of a piece that has not ended is then
+    /// Ends the stream, and begins the next. The visible text of a span that has not ended is then
     /// [`output`].
     ///
     /// The error says that a request for memory was refused: nothing was added, and from then on
@@ -183,7 +183,7 @@ impl<P: Admit<A>, A: Allocator + Copy> Reveal<P, A> {
         Ok(())
     }
 
-    // Takes the bytes before the first line feed that ends a piece, or this line feed, if it comes
+    // Takes the bytes before the first line feed that ends a span, or this line feed, if it comes
     // first, and returns their number.
     fn take_line(&mut self, bytes: &[u8]) -> Result<usize, AllocError>
         requires { 0 < length bytes.now }
@@ -198,7 +198,7 @@ impl<P: Admit<A>, A: Allocator + Copy> Reveal<P, A> {
         Ok(run)
     }
 
-    // Returns how many bytes come before the first line feed that ends a piece.
+    // Returns how many bytes come before the first line feed that ends a span.
     fn open_run(&self, bytes: &[u8]) -> usize
         ensures few { result ≤ length bytes.now }
         ensures lineless { has_line_end (by_lines_of self.now) (take result bytes.now) ≡ false }
@@ -214,7 +214,7 @@ impl<P: Admit<A>, A: Allocator + Copy> Reveal<P, A> {
         }
     }
 
-    // Takes these bytes, none of which is a line feed that ends a piece.
+    // Takes these bytes, none of which is a line feed that ends a span.
     fn take_open(&mut self, bytes: &[u8]) -> Result<(), AllocError>
         requires { has_line_end (by_lines_of self.old) bytes.now ≡ false }
         ensures given { (r : List ℕ) → AtRest r self.old → OnOk result
@@ -232,7 +232,7 @@ impl<P: Admit<A>, A: Allocator + Copy> Reveal<P, A> {
     }
 
     // Takes some of these bytes, and returns how many: a run of text that stays, or those up to the
-    // end of a piece or of an event.
+    // end of a span or of an event.
     fn take_some(&mut self, bytes: &[u8]) -> Result<usize, AllocError>
         requires { IsOpenRun (by_lines_of self.old) bytes.now }
         ensures { TakesSome P.Admit AtRest self.old bytes.now result self.new }
@@ -263,13 +263,13 @@ impl<P: Admit<A>, A: Allocator + Copy> Reveal<P, A> {
         admitted_run(&self.rule.policy, self.rule.marking, bytes)
     }
 
-    // Takes bytes up to the end of a piece, or all, if no segment is unfinished, and returns their
+    // Takes bytes up to the end of a span, or all, if no segment is unfinished, and returns their
     // number.
     fn take_first(&mut self, bytes: &[u8]) -> Result<usize, AllocError>
         requires { IsOpenRun (by_lines_of self.old) bytes.now }
-        ensures { TakesSome P.Admit AtPieceEnd self.old bytes.now result self.new }
+        ensures { TakesSome P.Admit AtSpanEnd self.old bytes.now result self.new }
     {
-        let (n, passes) = judge_piece(
+        let (n, passes) = judge_span(
             self.alloc,
             &mut self.framer,
             &self.rule.policy,
@@ -280,7 +280,7 @@ impl<P: Admit<A>, A: Allocator + Copy> Reveal<P, A> {
         Ok(n)
     }
 
-    // Takes these bytes, which were framed and judged: they are a piece, or begin one.
+    // Takes these bytes, which were framed and judged: they are a span, or begin one.
     fn put_first(&mut self, passes: bool, bytes: &[u8]) -> Result<(), AllocError>
         ensures given { IsFramed [] bytes.now self.old → IsPart (by_lines_of self.old) [] bytes.now
             → (passes ≡ are_kept (P.admits (policy_of self.old))
@@ -304,18 +304,18 @@ impl<P: Admit<A>, A: Allocator + Copy> Reveal<P, A> {
         }
     }
 
-    // Takes bytes up to the end of a piece or of an event, and returns how many.
+    // Takes bytes up to the end of a span or of an event, and returns how many.
     fn take_more(&mut self, bytes: &[u8]) -> Result<usize, AllocError>
         requires { IsOpenRun (by_lines_of self.old) bytes.now }
         ensures { TakesSome P.Admit AtRest self.old bytes.now result self.new }
     {
         let n = frame_some(&mut self.framer, bytes)?;
-        self.take_piece(&bytes[..n])?;
+        self.take_span(&bytes[..n])?;
         Ok(n)
     }
 
-    // Takes these bytes, which were framed: they end a piece, or are a part of it.
-    fn take_piece(&mut self, bytes: &[u8]) -> Result<(), AllocError>
+    // Takes these bytes, which were framed: they end a span, or are a part of it.
+    fn take_span(&mut self, bytes: &[u8]) -> Result<(), AllocError>
         ensures given { (r : List ℕ) → IsFramed r bytes.now self.old
             → IsPart (by_lines_of self.old) r bytes.now → OnOk result
             (GrowsTo P.Admit r bytes.now self.old self.new) }
@@ -328,7 +328,7 @@ impl<P: Admit<A>, A: Allocator + Copy> Reveal<P, A> {
         if has_ended { self.close() } else { Ok(()) }
     }
 
-    // Takes a line feed that ends a piece.
+    // Takes a line feed that ends a span.
     fn end_line(&mut self, byte: u8) -> Result<(), AllocError>
         requires { (by_lines_of self.old && is_line_feed byte) ≡ true }
         ensures given { (r : List ℕ) → AtRest r self.old → OnOk result
@@ -340,7 +340,7 @@ impl<P: Admit<A>, A: Allocator + Copy> Reveal<P, A> {
         fallible_alloc::extend(&mut self.text, &[byte])
     }
 
-    // Ends a piece that no line feed ends.
+    // Ends a span that no line feed ends.
     fn close(&mut self) -> Result<(), AllocError>
         ensures given { (r : List ℕ) → AtRest r self.old → OnOk result
             (Holds [] (rest_text (marking_of self.old) (limit_of self.old) r)
@@ -355,7 +355,7 @@ impl<P: Admit<A>, A: Allocator + Copy> Reveal<P, A> {
         }
     }
 
-    // Returns whether the piece stays as it is.
+    // Returns whether the span stays as it is.
     fn is_kept(&mut self) -> Result<bool, AllocError>
         ensures given { (r : List ℕ) → AtRest r self.old → IfOk result
             (λ k. AtRest r self.new
@@ -365,9 +365,9 @@ impl<P: Admit<A>, A: Allocator + Copy> Reveal<P, A> {
         ensures text { added_by self.new ≡ added_by self.old }
         ensures refused { (r : List ℕ) → AtRest r self.old → OnErr result (Refused A) }
     {
-        match self.kept.piece() {
-            Some(piece) => {
-                if !self.rule.marking.lets_stay(piece) {
+        match self.kept.span() {
+            Some(span) => {
+                if !self.rule.marking.lets_stay(span) {
                     return Ok(false);
                 }
                 stays_spelled(
@@ -375,14 +375,14 @@ impl<P: Admit<A>, A: Allocator + Copy> Reveal<P, A> {
                     &mut self.framer,
                     &self.rule.policy,
                     self.rule.limit,
-                    piece,
+                    span,
                 )
             }
             None => Ok(false),
         }
     }
 
-    // Writes the piece, which is within the limit, as it came, and begins anew.
+    // Writes the span, which is within the limit, as it came, and begins anew.
     fn write(&mut self) -> Result<(), AllocError>
         ensures given { (r : List ℕ) → AtRest r self.old
             → nat_le (length r) (limit_of self.old) ≡ true → OnOk result
@@ -395,7 +395,7 @@ impl<P: Admit<A>, A: Allocator + Copy> Reveal<P, A> {
         self.kept.write(&mut self.text)
     }
 
-    // Shows the part of the piece that was not shown yet, and begins anew.
+    // Shows the part of the span that was not shown yet, and begins anew.
     fn show(&mut self) -> Result<(), AllocError>
         ensures given { (r : List ℕ) → AtRest r self.old → OnOk result
             (Holds [] (rest_text (marking_of self.old) (limit_of self.old) r)

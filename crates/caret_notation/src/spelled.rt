@@ -1,4 +1,4 @@
-//! This module says whether all of a piece is in the text of its meaning.
+//! This module says whether all of a span is in the text of its meaning.
 ghost use Rattle.std.specs.Prelude.{◌≡◌, ◌&&◌, ◌≤◌, IfOk, OnErr, Some, length, nat_le};
 ghost use Rattle.esc_normal.specs.Normalising.{normal_form};
 ghost use Rattle.caret_notation.specs.Spelled.{digits_after, ends_in_bell, is_body, is_end, is_control_sequence, is_single, is_spelled, is_text_of, most_digits};
@@ -13,63 +13,63 @@ use std::alloc::{AllocError, Allocator};
 // Digits that a number of 64 bits holds, whatever they are.
 const MOST_DIGITS: usize = 18;
 
-/// Returns whether the piece stays, if each value that it means passes, or does not.
+/// Returns whether the span stays, if each value that it means passes, or does not.
 pub(crate) fn may_stay<A: Allocator + Copy>(
     alloc: A,
     marking: Marking,
     limit: usize,
     passes: bool,
-    piece: &[u8],
+    span: &[u8],
 ) -> Result<bool, AllocError>
-    ensures given { IfOk result (λ k. k ≡ ((nat_le (length piece.now) limit
-        && lets_stay marking piece.now) && (passes
-        && is_spelled piece.now (normal_form A (Some limit) piece.now)))) }
+    ensures given { IfOk result (λ k. k ≡ ((nat_le (length span.now) limit
+        && lets_stay marking span.now) && (passes
+        && is_spelled span.now (normal_form A (Some limit) span.now)))) }
     ensures refused { OnErr result (Refused A) }
 {
-    if passes && piece.len() <= limit && marking.lets_stay(piece) {
-        is_spelled(alloc, limit, piece)
+    if passes && span.len() <= limit && marking.lets_stay(span) {
+        is_spelled(alloc, limit, span)
     } else {
         Ok(false)
     }
 }
 
-/// Returns whether all bytes of the piece are in the text of its meaning. That text is made if the
-/// piece is neither a byte of ASCII nor a control sequence.
+/// Returns whether all bytes of the span are in the text of its meaning. That text is made if the
+/// span is neither a byte of ASCII nor a control sequence.
 pub(crate) fn is_spelled<A: Allocator + Copy>(
     alloc: A,
     limit: usize,
-    piece: &[u8],
+    span: &[u8],
 ) -> Result<bool, AllocError>
     ensures given { IfOk result
-        (λ k. k ≡ is_spelled piece.now (normal_form A (Some limit) piece.now)) }
+        (λ k. k ≡ is_spelled span.now (normal_form A (Some limit) span.now)) }
     ensures refused { OnErr result (Refused A) }
 {
-    if is_single(piece) || is_control_sequence(piece) {
+    if is_single(span) || is_control_sequence(span) {
         return Ok(true);
     }
-    match normal_text(alloc, piece, Some(limit)) {
-        Ok(text) => Ok(is_text_of(piece, text.as_bytes())),
+    match normal_text(alloc, span, Some(limit)) {
+        Ok(text) => Ok(is_text_of(span, text.as_bytes())),
         Err(error) => Err(error),
     }
 }
 
-// Returns whether the piece is one byte of ASCII.
-fn is_single(piece: &[u8]) -> bool
-    ensures { result ≡ is_single piece.now }
+// Returns whether the span is one byte of ASCII.
+fn is_single(span: &[u8]) -> bool
+    ensures { result ≡ is_single span.now }
 {
-    piece.len() == 1 && piece[0] < 0x80
+    span.len() == 1 && span[0] < 0x80
 }
 
-// Returns whether the piece is a control sequence with no control in it, of numbers of few digits.
-fn is_control_sequence(piece: &[u8]) -> bool
-    ensures { result ≡ is_control_sequence piece.now }
+// Returns whether the span is a control sequence with no control in it, of numbers of few digits.
+fn is_control_sequence(span: &[u8]) -> bool
+    ensures { result ≡ is_control_sequence span.now }
 {
-    let n = piece.len();
+    let n = span.len();
     n >= 3
-        && piece[0] == 0x1b
-        && piece[1] == b'['
-        && is_final(piece[n - 1])
-        && is_body(&piece[2..n - 1])
+        && span[0] == 0x1b
+        && span[1] == b'['
+        && is_final(span[n - 1])
+        && is_body(&span[2..n - 1])
 }
 
 // Returns whether the bytes are parameters and intermediates, with not too many digits in a row.
@@ -123,14 +123,14 @@ fn is_final(byte: u8) -> bool
     0x40 <= byte && byte <= 0x7e
 }
 
-// Returns whether the text is the piece, or the piece with `ESC \` in the place of the BEL that
+// Returns whether the text is the span, or the span with `ESC \` in the place of the BEL that
 // ends it.
-fn is_text_of(piece: &[u8], text: &[u8]) -> bool
-    ensures { result ≡ is_text_of piece.now text.now }
+fn is_text_of(span: &[u8], text: &[u8]) -> bool
+    ensures { result ≡ is_text_of span.now text.now }
 {
-    let last = piece.len().saturating_sub(1);
+    let last = span.len().saturating_sub(1);
     let end = text.len().saturating_sub(2);
-    text == piece || (ends_in_bell(piece) && is_end(&text[end..]) && text[..end] == piece[..last])
+    text == span || (ends_in_bell(span) && is_end(&text[end..]) && text[..end] == span[..last])
 }
 
 // Returns whether the last of the bytes is BEL.

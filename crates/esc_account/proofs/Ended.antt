@@ -49,27 +49,27 @@ escape_instead : (f y : List ℕ) (a : ℕ) (t : List ℕ) → is_broken_before 
 escape_instead f [] a t h = escape_breaks f
 escape_instead f (c ∷ y) a t h = h
 
-pieces_ended : (ps : List OscUnit) (a : ℕ) (t : List ℕ) → AreOscUnits ps (a ∷ t)
+parts_ended : (ps : List OscUnit) (a : ℕ) (t : List ℕ) → AreOscUnits ps (a ∷ t)
     → AreOscUnits ps (0x1b ∷ [])
-pieces_ended [] a t h = tt
-pieces_ended (One b ∷ ps) a t (h, r) = (h, pieces_ended ps a t r)
-pieces_ended (Sequence x ∷ ps) a t (h, r) = (h, pieces_ended ps a t r)
-pieces_ended (BrokenOff x ∷ ps) a t (h, r) =
-    ((h.0, escape_instead x (text_bytes ps) a t h.1), pieces_ended ps a t r)
+parts_ended [] a t h = tt
+parts_ended (One b ∷ ps) a t (h, r) = (h, parts_ended ps a t r)
+parts_ended (Sequence x ∷ ps) a t (h, r) = (h, parts_ended ps a t r)
+parts_ended (BrokenOff x ∷ ps) a t (h, r) =
+    ((h.0, escape_instead x (text_bytes ps) a t h.1), parts_ended ps a t r)
 
--- where the byte that follows stays, a piece is one whatever comes after that
+-- where the byte that follows stays, a part is one whatever comes after that
 same_break : (f y : List ℕ) (b : ℕ) (t u : List ℕ) → is_broken_before f (y ++ b ∷ t) ≡ true
     → is_broken_before f (y ++ b ∷ u) ≡ true
 same_break f [] b t u h = h
 same_break f (c ∷ y) b t u h = h
 
-pub pieces_rung : (ps : List OscUnit) (b : ℕ) (t u : List ℕ) → AreOscUnits ps (b ∷ t)
+pub parts_rung : (ps : List OscUnit) (b : ℕ) (t u : List ℕ) → AreOscUnits ps (b ∷ t)
     → AreOscUnits ps (b ∷ u)
-pieces_rung [] b t u h = tt
-pieces_rung (One c ∷ ps) b t u (h, r) = (h, pieces_rung ps b t u r)
-pieces_rung (Sequence x ∷ ps) b t u (h, r) = (h, pieces_rung ps b t u r)
-pieces_rung (BrokenOff x ∷ ps) b t u (h, r) =
-    ((h.0, same_break x (text_bytes ps) b t u h.1), pieces_rung ps b t u r)
+parts_rung [] b t u h = tt
+parts_rung (One c ∷ ps) b t u (h, r) = (h, parts_rung ps b t u r)
+parts_rung (Sequence x ∷ ps) b t u (h, r) = (h, parts_rung ps b t u r)
+parts_rung (BrokenOff x ∷ ps) b t u (h, r) =
+    ((h.0, same_break x (text_bytes ps) b t u h.1), parts_rung ps b t u r)
 
 -- ---- a segment that is finished is so where ESC follows
 
@@ -87,8 +87,8 @@ ended_by (HighControl p b) a t h f = (h, refl)
 ended_by (Terminator p b) a t h f = (h, refl)
 ended_by (Escape x e) a t h f = (h, refl)
 ended_by (Csi o x e) a t h f = (h, refl)
-ended_by (Osc o ps Open) a t h f = ((h.0, pieces_ended ps a t h.1, tt), rw escape_class refl)
-ended_by (Osc o ps Rung) a t h f = ((h.0, pieces_rung ps 0x07 (a ∷ t) (0x1b ∷ []) h.1, tt), refl)
+ended_by (Osc o ps Open) a t h f = ((h.0, parts_ended ps a t h.1, tt), rw escape_class refl)
+ended_by (Osc o ps Rung) a t h f = ((h.0, parts_rung ps 0x07 (a ∷ t) (0x1b ∷ []) h.1, tt), refl)
 ended_by (Osc o ps (Waits x)) a t h f = absurd cc
 ended_by (Dcs o x e d) a t h f = (h, rw escape_class refl)
 ended_by (Apc o d) a t h f = (h, rw escape_class refl)

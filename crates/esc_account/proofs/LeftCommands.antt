@@ -38,7 +38,7 @@ use Rattle.esc_account.specs.Accounts.{is_end}
 use Rattle.esc_account.specs.Passing.{passed_as}
 use Rattle.esc_account.specs.Rules.{before_after, fate_of, is_spelled, left_as, rule_of, spelling_of, verdict_on}
 use Rattle.esc_account.specs.declared.fate.Fate.TheVariants as fates
-use Rattle.esc_account.proofs.Ended.{first_shape, pieces_rung}
+use Rattle.esc_account.proofs.Ended.{first_shape, parts_rung}
 use Rattle.esc_account.proofs.Fates.{verdict_of}
 use Rattle.esc_account.proofs.Seen.{units, units_are, units_text}
 use Rattle.esc_account.proofs.ShortSequences.{first_of, last_same, rest_of}
@@ -88,7 +88,7 @@ module _ (t : List ℕ) (all : list_all is_data_byte t ≡ true) where
       apart : Open ≡ Rung → ⊥
       apart q = cc
   units_by ps Rung [] after are over same end =
-      absurd (apart (units_same ps (units t) Rung Open [] [] (pieces_rung ps 0x07 after [] are)
+      absurd (apart (units_same ps (units t) Rung Open [] [] (parts_rung ps 0x07 after [] are)
       (units_are t [] all) tt tt tt tt
       (same ∙ append-nil t ∙ sym (units_text t) ∙ sym (append-nil (text_bytes (units t))))).1)
     where

@@ -21,7 +21,7 @@ use std::alloc::{AllocError, Allocator, Global};
 /// stream as they come, each time with the text that was written of them, as by a
 /// [`LineFilter`](esc_filter::LineFilter). The lines of the text are those that were written of the
 /// lines of the stream, one for each. It keeps the bytes of the last line, and the text that was
-/// written of it: lines that lie in a piece are entered there. After 2^62 bytes nothing is said of
+/// written of it: lines that lie in a chunk are entered there. After 2^62 bytes nothing is said of
 /// it.
 #[derive(Drop)]
 pub struct LineLedger<J, B, A: Allocator = Global> {

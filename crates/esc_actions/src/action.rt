@@ -16,7 +16,7 @@ use std::fmt;
 use std::fmt::Display;
 use xtgettcap::TcapQuery;
 
-/// The request that a piece of a stream makes to a terminal.
+/// The request that a part of a stream makes to a terminal.
 #[derive(Drop)]
 #[derive_where(Debug, PartialEq)]
 pub enum Action<A: Allocator = Global> {

@@ -1,4 +1,4 @@
-//! Actions of a terminal: the requests that pieces of a stream make to it, their texts, and the
+//! Actions of a terminal: the requests that parts of a stream make to it, their texts, and the
 //! laws of the meaning of streams (ECMA-48; xterm's list of control sequences).
 //!
 //! An [`Action`] is a value with a text. The specifications of this crate define the meaning of a

@@ -10,8 +10,8 @@ use Rattle.esc_sixel.specs.contracts.sixel.SixelPartialEq.TheImpl as sixel_eq
 use Rattle.esc_sixel.specs.contracts.sixel_data.SixelDataPartialEq.TheImpl as data_eq
 use Rattle.esc_equality.proofs.Same.{IsSame, bools, both, integers, lists, numbers, options}
 
-pieces : IsSame data_eq.ghosts.eq
-pieces a b = search rules
+data_same : IsSame data_eq.ghosts.eq
+data_same a b = search rules
 
 sizes : IsSame (option_eq nat_eq)
 sizes = options nat_eq numbers
@@ -27,7 +27,7 @@ sixels T G x y a b =
     (both (sizes a.pixel_height b.pixel_height)
     (both (bools a.background_is_transparent b.background_is_transparent)
     (both (grids a.horizontal_grid_size b.horizontal_grid_size)
-    (lists data_eq.ghosts.eq pieces a.content b.content)))))) in (
+    (lists data_eq.ghosts.eq data_same a.content b.content)))))) in (
       λ h.
           let e = parts.0 h in
           λ i. record {

@@ -4,7 +4,7 @@ ghost use Rattle.std.specs.Prelude.{◌≡◌, ◌↔◌, IsTrue};
 use esc_sixel::{Sixel, SixelData};
 use std::alloc::Allocator;
 
-/// Returns whether two pieces of sixel data are the same.
+/// Returns whether two parts of sixel data are the same.
 pub fn same_sixel_data(a: &SixelData, b: &SixelData) -> bool
     ensures { IsTrue result ↔ (a.now ≡ b.now) }
 {

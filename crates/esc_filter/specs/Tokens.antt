@@ -1,4 +1,4 @@
--- The texts that are written under the policies `Text` and `Color`: pieces, one after another.
+-- The texts that are written under the policies `Text` and `Color`: parts, one after another.
 use Rattle.std.specs.Prelude.{ℕ, ◌≡◌, ◌⊎◌, Bool, true, false, nat_le, ◌==◌, ◌&&◌, ◌||◌, List, [], ◌∷◌, ◌++◌, codes}
 use Rattle.std.specs.Char.{encode_utf8}
 use Rattle.std.specs.List.{All, list_all}
@@ -30,12 +30,12 @@ abbrev pub IsLink : List ℕ → Type 0
 IsLink x = (y : List ℕ) × IsClearText (codes "8;" ++ y) × (list_all is_shown y ≡ true)
     × (x ≡ framed_text (codes "8;" ++ y))
 
--- a piece: a character, and if there is colour also a rendition or a link
+-- a part: a character, and if there is colour also a rendition or a link
 abbrev pub IsToken : Bool → List ℕ → Type 0
 IsToken false x = IsCharacter x
 IsToken true x = IsCharacter x ⊎ (IsRendition x ⊎ IsLink x)
 
--- pieces, one after another
+-- parts, one after another
 abbrev pub IsOfTokens : Bool → List ℕ → Type 0
 IsOfTokens colour t = (xs : List (List ℕ)) × All (IsToken colour) xs × (t ≡ joined_lists xs)
 

@@ -1,4 +1,4 @@
-//! Filters, as filters of streams in pieces.
+//! Filters, as filters of streams in chunks.
 ghost use Rattle.std.specs.Prelude.{◌≡◌, ℕ, Bool, Some, false};
 ghost use Rattle.esc_filter.specs.Fed.{HasConsumedIn, added_by, policy_of};
 ghost use Rattle.esc_filter.specs.Lines.{HasConsumedLines, added_by as added_by_lines, closed_by_lines_as, policy_of_lines, text_by_lines_as};

@@ -1,4 +1,4 @@
-//! A filter that is fed a stream piece by piece.
+//! A filter that is fed a stream chunk by chunk.
 ghost use Rattle.std.specs.Prelude.{◌≡◌, ◌≤◌, ◌+◌, ◌++◌, Bool, List, [], IfErr, IsTrue, OnErr, OnOk, Some, false, min, string_bytes};
 ghost use Rattle.esc_actions.specs.Limited.{data_kept};
 ghost use Rattle.esc_actions.specs.Values.{control};
@@ -26,11 +26,11 @@ use esc_values::Text;
 use std::alloc::{AllocError, Allocator, Global};
 use std::mem;
 
-/// Takes a stream in any pieces, and gives for each the text that it adds: the text of the actions
+/// Takes a stream in any chunks, and gives for each the text that it adds: the text of the actions
 /// that pass the policy. At its end it gives the text that undoes the changes that these leave at a
 /// terminal.
 ///
-/// It keeps the unfinished segment as a parser does, at most the limit, the text of the piece
+/// It keeps the unfinished segment as a parser does, at most the limit, the text of the part
 /// before, whether a string terminator that comes next ends a string that was written already, and
 /// the changes that are left.
 #[derive(Drop)]

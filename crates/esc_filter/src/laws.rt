@@ -197,7 +197,7 @@ pub fn some_groups_admit_less<A: Allocator>()
 {}
 
 /// The rest of such a text after a prefix that is such a text is one too, since no character,
-/// rendition or link begins with another. So a filter adds whole pieces for bytes that it is fed,
+/// rendition or link begins with another. So a filter adds whole parts for bytes that it is fed,
 /// and for the end of a stream, wherever the bytes are cut.
 pub fn rest_is_whole()
     ensures plain { (x t : List ℕ) → IsPlainText x → IsPlainText (x ++ t) → IsPlainText t }

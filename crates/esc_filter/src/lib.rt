@@ -2,7 +2,7 @@
 //! policy admits, as they come.
 //!
 //! [`filter_stream`] reads a stream and writes the text of those of its actions that a [`Policy`],
-//! or an [`Admit`] of the caller's own, admits; [`Filter`] does it piece by piece. The output reads
+//! or an [`Admit`] of the caller's own, admits; [`Filter`] does it chunk by chunk. The output reads
 //! back as these actions and as nothing else, so no text of the stream becomes a sequence, however
 //! broken it is. A [`Guard`] says how characters and carriage returns that hide or reorder text are
 //! written. [`Encoder`] writes actions one at a time.

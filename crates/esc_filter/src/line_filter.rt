@@ -17,7 +17,7 @@ use std::alloc::{AllocError, Allocator, Global};
 // The length of a line without its line feed at most, if it is fed from a copy.
 const SHORT: usize = 256;
 
-/// Takes a stream in any pieces, and gives for each the text that it adds, as [`Filter`] does; but
+/// Takes a stream in any chunks, and gives for each the text that it adds, as [`Filter`] does; but
 /// each line, up to its line feed and with it, is a stream of its own. So a string that nobody ends
 /// hides nothing of the lines after it, and each line of the stream has its line in the text: if a
 /// string takes the line feed away, one is added. The changes that a line leaves at a terminal are
@@ -28,7 +28,7 @@ const SHORT: usize = 256;
 /// one that comes last is held back until the next byte says whether it is one. Each other is bare,
 /// and the [`Guard`] says how it is written.
 ///
-/// It keeps the last line as a [`Filter`] does, and the text of the piece before.
+/// It keeps the last line as a [`Filter`] does, and the text of the chunk before.
 #[derive(Drop)]
 pub struct LineFilter<P, A: Allocator = Global> {
     pub(crate) filter: Filter<P, A>,

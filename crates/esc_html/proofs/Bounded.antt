@@ -28,7 +28,7 @@ use Rattle.esc_html.specs.PageParts.{html_text, page_part_text}
 use Rattle.esc_html.specs.declared.layout.Layout.{Layout}
 use Rattle.esc_html.proofs.Addressed.{capped, lead_size, meant_within, parts_size, short_size}
 use Rattle.esc_html.proofs.Costs.{Pays, address_size, control_pays, core, csis_keep, ending_most, escape_pays, held_most, kept, nothing_pays, print_pays, redirects_pays, reserve_most}
-use Rattle.esc_html.proofs.Pages.{pieces_more, state_more}
+use Rattle.esc_html.proofs.Pages.{parts_more, state_more}
 use Rattle.esc_html.proofs.Safe.{IsGoodLink, IsGoodStep, good_command, good_function, good_next}
 use Rattle.esc_html.proofs.Weights.{bytes_used, unused_most, weight, weights}
 use Rattle.esc_kitty.specs.Images.{image_of}
@@ -137,7 +137,7 @@ module _ (A : Type 0) where
         arith,
         h,
         k,
-        ap (λ x. length (html_text x)) (pieces_more pl g vs ws)
+        ap (λ x. length (html_text x)) (parts_more pl g vs ws)
             ∙ ap length (flat_map-append page_part_text (page_parts_from pl g vs)
             (page_parts_from pl j ws))
             ∙ length-append (html_text (page_parts_from pl g vs))

@@ -17,7 +17,7 @@ use Rattle.esc_html.specs.declared.html_writer.HtmlWriter.{HtmlWriter}
 use Rattle.esc_html.specs.declared.layout.Layout.{Layout}
 use Rattle.esc_html.specs.declared.page.Page.{Page}
 use Rattle.esc_html.proofs.Bounded.{page_part_bounded}
-use Rattle.esc_html.proofs.Pages.{pieces_more, state_more}
+use Rattle.esc_html.proofs.Pages.{parts_more, state_more}
 
 pub takes_all : {A : Type 0} (p : Page A) (vs : List (Value A)) (q : Page A)
     → FoldsTo (At value_of Takes) p vs q
@@ -70,7 +70,7 @@ fed_more {A} limit y s b p q none at same f =
           ∙ sym (state_more pl first us vs) ∙ ap (state_from pl first) (sym more),
       r.2 ∙ same,
       ap (λ ws. html_text (page_parts_from pl first ws)) more
-          ∙ ap html_text (pieces_more pl first us vs)
+          ∙ ap html_text (parts_more pl first us vs)
           ∙ flat_map-append page_part_text (page_parts_from pl first us)
           (page_parts_from pl (state_from pl first us) vs)
           ∙ ap (λ x. page_text A limit y s ++ x) (sym text),

@@ -21,13 +21,13 @@ pub state_more : {A : Type 0} (pl : Bool) (g : State) (vs ws : List (Value A))
 state_more pl g [] ws = refl
 state_more pl g (v ∷ vs) ws = state_more pl (state_by pl g (step_of g.pen v)) vs ws
 
-pub pieces_more : {A : Type 0} (pl : Bool) (g : State) (vs ws : List (Value A))
+pub parts_more : {A : Type 0} (pl : Bool) (g : State) (vs ws : List (Value A))
     → page_parts_from pl g (vs ++ ws)
     ≡ page_parts_from pl g vs ++ page_parts_from pl (state_from pl g vs) ws
-pieces_more pl g [] ws = refl
-pieces_more pl g (v ∷ vs) ws =
+parts_more pl g [] ws = refl
+parts_more pl g (v ∷ vs) ws =
     let s = step_of g.pen v in
-    ap (λ ps. page_parts_by pl g s ++ ps) (pieces_more pl (state_by pl g s) vs ws)
+    ap (λ ps. page_parts_by pl g s ++ ps) (parts_more pl (state_by pl g s) vs ws)
     ∙ sym (append_assoc (page_parts_by pl g s) (page_parts_from pl (state_by pl g s) vs)
     (page_parts_from pl (state_from pl (state_by pl g s) vs) ws))
 

@@ -7,7 +7,7 @@ use Rattle.std.proofs.lemmas.List.{take_more, flat_map_more, map-append}
 use Rattle.esc_values.specs.Clear.{semicolon_list, separated_parts}
 use Rattle.esc_values.specs.Cuts.{Pairs, pair_text}
 use Rattle.esc_values.specs.Fields.{Entry, with_value, present_pairs}
-use Rattle.esc_iterm.specs.Files.{key_slices, pieces_after}
+use Rattle.esc_iterm.specs.Files.{key_slices, parts_after}
 
 -- whether there is no slice
 abbrev pub is_nothing : List (List ℕ) → Bool
@@ -30,7 +30,7 @@ slices_push (d ∷ es) e =
 
 text_push : (ps : List (List ℕ)) (k : List ℕ) (o : Option (List ℕ))
     → semicolon_list (ps ++ key_slices ((k, o) ∷ []))
-    ≡ semicolon_list ps ++ pieces_after (is_nothing ps) (key_slices ((k, o) ∷ []))
+    ≡ semicolon_list ps ++ parts_after (is_nothing ps) (key_slices ((k, o) ∷ []))
 text_push [] k o = refl
 text_push (p ∷ ps) k None = rw (append-nil ps) (sym (append-nil (semicolon_list (p ∷ ps))))
 text_push (p ∷ ps) k (Some v) =
@@ -57,12 +57,12 @@ slices_more f keys i d lt =
 pub text_more : {X : Type 0} (f : X → Entry) (keys : List X) (i : ℕ) (d : X) (first : Bool)
     → i < length keys → first ≡ is_nothing (key_slices (map f (take i keys)))
     → semicolon_list (key_slices (map f (take i keys)))
-    ++ pieces_after first (key_slices (f (get_or keys i d) ∷ []))
+    ++ parts_after first (key_slices (f (get_or keys i d) ∷ []))
     ≡ semicolon_list (key_slices (map f (take (i + 1) keys)))
 text_more f keys i d first lt is =
     let k = f (get_or keys i d) in
     ap (λ b. semicolon_list (key_slices (map f (take i keys)))
-        ++ pieces_after b (key_slices (k ∷ []))) is
+        ++ parts_after b (key_slices (k ∷ []))) is
     ∙ sym (ap semicolon_list (slices_more f keys i d lt) ∙ text_push
         (key_slices (map f (take i keys))) k.0
     k.1)

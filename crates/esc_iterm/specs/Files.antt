@@ -159,9 +159,9 @@ abbrev pub key_slices : List Entry → List (List ℕ)
 key_slices es = map pair_text (present_pairs es)
 
 -- slices with `;` between them, and before the first of them where it is not the first at all
-abbrev pub pieces_after : Bool → List (List ℕ) → List ℕ
-pieces_after true ps = semicolon_list ps
-pieces_after false ps = separated_parts ps
+abbrev pub parts_after : Bool → List (List ℕ) → List ℕ
+parts_after true ps = semicolon_list ps
+parts_after false ps = separated_parts ps
 
 -- the text of a file, after `1337;`
 abbrev pub file_text : {A : Type 0} → ITermFileData A → List ℕ

@@ -7,7 +7,7 @@ ghost use Rattle.esc_values.specs.Clear.{semicolon_list};
 ghost use Rattle.esc_values.specs.Scalars.{some_if};
 ghost use Rattle.esc_iterm.specs.FileKeys.{entry, value_text};
 ghost use Rattle.esc_values.specs.Fields.{entries};
-ghost use Rattle.esc_iterm.specs.Files.{file_fields, key_slices, pieces_after};
+ghost use Rattle.esc_iterm.specs.Files.{file_fields, key_slices, parts_after};
 
 use crate::dimension::ITermDimension;
 use crate::file_data::ITermFileData;
@@ -103,7 +103,7 @@ fn write_each<W: fmt::Write>(keys: &[Key<'_>], f: &mut fmt::Formatter<W>) -> fmt
 // Writes a key with its value, if it is written, and a `;` before it, unless it is the first.
 fn write_key<W: fmt::Write>(is_first: bool, key: &Key<'_>, f: &mut fmt::Formatter<W>) -> fmt::Result
     ensures { DisplaysOnOk W.write_str_gives f.old result
-        (Some (pieces_after is_first (key_slices (entry key.now ∷ [])))) f.new }
+        (Some (parts_after is_first (key_slices (entry key.now ∷ [])))) f.new }
 {
     if !key.1.is_written() {
         return Ok(());

@@ -8,7 +8,7 @@ use Rattle.esc_values.proofs.PlainParts.{plain_part}
 use Rattle.esc_values.proofs.Split.{text_parts, joined_split}
 use Rattle.esc_osc_values.specs.Lists.{title_of}
 
--- every text splits into at least one piece
+-- every text splits into at least one part
 abbrev HasFirst : List (List ℕ) → Type 0
 HasFirst qs = (p : List ℕ) × (ps : List (List ℕ)) × (qs ≡ p ∷ ps)
 

@@ -14,14 +14,14 @@ use Rattle.esc_screen.specs.declared.cell.Cell.{Cell}
 use Rattle.esc_screen.specs.declared.content.Content.{Content}
 use Rattle.esc_screen.specs.declared.content.Content.TheVariants as content
 use Rattle.esc_screen.specs.declared.marks.Marks.{Marks}
-use Rattle.esc_paint.specs.Pieces.{Piece, character, erase_all, erase_right, look, piece_text, pieces_text, place, soft_reset}
-use Rattle.esc_paint.specs.Painting.{cells_pieces, content_pieces, cursor_pieces, drawn_pieces, is_waiting, marks_pieces, paint_pieces, painting_text, pen_by, row_again, row_pieces, rows_pieces}
-use Rattle.esc_paint.specs.Differences.{change_pieces, here_pen, is_other, rest_pieces, row_changes, rows_changes, same_cells, same_screen, same_size}
+use Rattle.esc_paint.specs.Parts.{Part, character, erase_all, erase_right, look, part_text, parts_text, place, soft_reset}
+use Rattle.esc_paint.specs.Painting.{cells_parts, content_parts, cursor_parts, drawn_parts, is_waiting, marks_parts, paint_parts, painting_text, pen_by, row_again, row_parts, rows_parts}
+use Rattle.esc_paint.specs.Differences.{change_parts, here_pen, is_other, rest_parts, row_changes, rows_changes, same_cells, same_screen, same_size}
 use Rattle.esc_paint.specs.Laws.{AllLookPlain, IsBounded, IsPaintable, LookPlain}
-use Rattle.esc_paint.proofs.Pieces.{AllFit, Fits}
+use Rattle.esc_paint.proofs.Parts.{AllFit, Fits}
 use Rattle.esc_paint.proofs.Plain.{led_fits, paint_fits, plain_drop, plain_pen}
 
--- ---- the text of a piece
+-- ---- the text of a part
 
 decimal_short : (r : ℕ) → r < 65536 → length (decimal (r + 1)) ≤ 5
 decimal_short r h =
@@ -30,7 +30,7 @@ decimal_short r h =
 character_short : (c : ℕ) → length (encode_utf8 c) ≤ 4
 character_short c = omega (arith, length-encode c, (len_utf8_bounds c).1)
 
-place_short : (r n : ℕ) → r < 65536 → n < 65536 → length (piece_text (place r n)) ≤ 14
+place_short : (r n : ℕ) → r < 65536 → n < 65536 → length (part_text (place r n)) ≤ 14
 place_short r n below before =
     let a = decimal (r + 1) in
     let b = decimal (n + 1) in
@@ -40,25 +40,25 @@ place_short r n below before =
     let column = decimal_short n before in
     omega (arith, first, second, row, column)
 
-piece_short : (p : Piece) → Fits p → length (piece_text p) ≤ 14
-piece_short soft_reset h = omega arith
-piece_short erase_all h = omega arith
-piece_short erase_right h = omega arith
-piece_short (place r n) h = place_short r n h.0 h.1
-piece_short (character c) h = omega (arith, character_short c)
-piece_short (look l) h = absurd h
+part_short : (p : Part) → Fits p → length (part_text p) ≤ 14
+part_short soft_reset h = omega arith
+part_short erase_all h = omega arith
+part_short erase_right h = omega arith
+part_short (place r n) h = place_short r n h.0 h.1
+part_short (character c) h = omega (arith, character_short c)
+part_short (look l) h = absurd h
 
-pieces_short : (ps : List Piece) → AllFit ps → length (pieces_text ps) ≤ 14 * length ps
-pieces_short [] h = omega arith
-pieces_short (p ∷ ps) h =
-    let both = length-append (piece_text p) (pieces_text ps) in
-    let first = piece_short p h.0 in
-    let rest = pieces_short ps h.1 in
+parts_short : (ps : List Part) → AllFit ps → length (parts_text ps) ≤ 14 * length ps
+parts_short [] h = omega arith
+parts_short (p ∷ ps) h =
+    let both = length-append (part_text p) (parts_text ps) in
+    let first = part_short p h.0 in
+    let rest = parts_short ps h.1 in
     omega (arith, both, first, rest)
 
--- ---- how many pieces: at most five are of a cell
+-- ---- how many parts: at most five are of a cell
 
-mark_few : (a b : Option ℕ) (o : Bool) → length (marks_pieces (record {
+mark_few : (a b : Option ℕ) (o : Bool) → length (marks_parts (record {
   first = a;
   second = b;
   others = o;
@@ -73,32 +73,32 @@ mark_few (Some a) (Some b) true = omega arith
 mark_few (Some a) (Some b) false = omega arith
 
 drawn_few : (b : Bool) (r n c : ℕ) (m : Marks)
-    → length (drawn_pieces r n (plain_pen b) c m plain_look) ≤ 5
+    → length (drawn_parts r n (plain_pen b) c m plain_look) ≤ 5
 drawn_few true r n c m =
-    let few : length (marks_pieces m) ≤ 3 = mark_few m.first m.second m.others in
+    let few : length (marks_parts m) ≤ 3 = mark_few m.first m.second m.others in
     omega (arith, few)
 drawn_few false r n c m =
-    let few : length (marks_pieces m) ≤ 3 = mark_few m.first m.second m.others in
+    let few : length (marks_parts m) ≤ 3 = mark_few m.first m.second m.others in
     omega (arith, few)
 
 module _ (f : ℕ → Look) where
   abbrev Few : ℕ → List Cell → Type 0
   Few r xs = (n : ℕ) (b : Bool)
-      → length (cells_pieces f r n (plain_pen b) xs) ≤ 5 * length xs
+      → length (cells_parts f r n (plain_pen b) xs) ≤ 5 * length xs
 
   drawn_then : (r c : ℕ) (m : Marks) (xs : List Cell) → Few r xs → (n : ℕ) (b : Bool)
-      → length (drawn_pieces r n (plain_pen b) c m plain_look
-      ++ cells_pieces f r (n + 1) (plain_pen true) xs) ≤ 5 * suc (length xs)
+      → length (drawn_parts r n (plain_pen b) c m plain_look
+      ++ cells_parts f r (n + 1) (plain_pen true) xs) ≤ 5 * suc (length xs)
   drawn_then r c m xs rest n b =
-      let both = length-append (drawn_pieces r n (plain_pen b) c m plain_look)
-      (cells_pieces f r (n + 1) (plain_pen true) xs) in
+      let both = length-append (drawn_parts r n (plain_pen b) c m plain_look)
+      (cells_parts f r (n + 1) (plain_pen true) xs) in
       let first = drawn_few b r n c m in
       let others = rest (n + 1) true in
       omega (arith, both, first, others)
 
   cell_few : (r : ℕ) (c : Content) (xs : List Cell) → Few r xs → (n : ℕ) (b : Bool)
-      → length (content_pieces r n (plain_pen b) plain_look c
-      ++ cells_pieces f r (n + 1) (pen_by (plain_pen b) plain_look c) xs) ≤ 5 * suc (length xs)
+      → length (content_parts r n (plain_pen b) plain_look c
+      ++ cells_parts f r (n + 1) (pen_by (plain_pen b) plain_look c) xs) ≤ 5 * suc (length xs)
   cell_few r content.Blank xs rest n b =
       let others = rest (n + 1) false in
       omega (arith, others)
@@ -111,27 +111,27 @@ module _ (f : ℕ → Look) where
   cells_few : (r : ℕ) (xs : List Cell) → LookPlain f xs → Few r xs
   cells_few r [] plain n b = omega arith
   cells_few r (x ∷ xs) plain n b =
-      subst (λ l. length (content_pieces r n (plain_pen b) l x.content
-      ++ cells_pieces f r (n + 1) (pen_by (plain_pen b) l x.content) xs) ≤ 5 * suc (length xs))
+      subst (λ l. length (content_parts r n (plain_pen b) l x.content
+      ++ cells_parts f r (n + 1) (pen_by (plain_pen b) l x.content) xs) ≤ 5 * suc (length xs))
       (sym plain.0) (cell_few r x.content xs (cells_few r xs plain.1) n b)
 
   -- ---- rows
 
   row_few : (s : Size) (r : ℕ) (xs : List Cell) → LookPlain f xs → length xs ≡ s.columns
-      → length (row_pieces f r xs) ≤ 5 * s.columns + 2
+      → length (row_parts f r xs) ≤ 5 * s.columns + 2
   row_few s r xs plain wide =
-      let few : length (row_pieces f r xs) ≤ 5 * length xs = cells_few r xs plain 0 false in
+      let few : length (row_parts f r xs) ≤ 5 * length xs = cells_few r xs plain 0 false in
       omega (arith, few, wide)
 
   change_few : (e : ℕ → Look) (s : Size) (r : ℕ) (xs ys : List Cell) → LookPlain f ys
       → length ys ≡ s.columns → length (row_changes e f r xs ys) ≤ 5 * s.columns + 2
   change_few e s r xs ys plain wide = by_test (is_other e f xs ys)
     where
-      by_test : (t : Bool) → length (if t then rest_pieces f r (same_cells e f xs ys) ys else [])
+      by_test : (t : Bool) → length (if t then rest_parts f r (same_cells e f xs ys) ys else [])
           ≤ 5 * s.columns + 2
       by_test true =
           let rest = length-drop (same_cells e f xs ys) ys in
-          let few : length (cells_pieces f r (same_cells e f xs ys) here_pen
+          let few : length (cells_parts f r (same_cells e f xs ys) here_pen
           (drop (same_cells e f xs ys) ys)) ≤ 5 * length (drop (same_cells e f xs ys) ys) =
           cells_few r (drop (same_cells e f xs ys) ys)
           (plain_drop f (same_cells e f xs ys) ys plain) (same_cells e f xs ys) true in
@@ -154,12 +154,12 @@ module _ (f : ℕ → Look) where
 
   rows_few : (s : Size) (xss : List (List Cell)) (r n : ℕ) → r + n ≤ length xss
       → AllLookPlain f xss → AreWide s.columns xss
-      → length (rows_pieces f xss r n) ≤ n * (5 * s.columns + 2)
+      → length (rows_parts f xss r n) ≤ n * (5 * s.columns + 2)
   rows_few s xss r zero all plain wide = omega arith
   rows_few s xss r (suc n) all plain wide =
       let g = get_few s r xss r (omega (arith, all)) plain wide in
-      let first = row_pieces f r (get_or xss r []) in
-      let rest = rows_pieces f xss (r + 1) n in
+      let first = row_parts f r (get_or xss r []) in
+      let rest = rows_parts f xss (r + 1) n in
       let both = length-append first rest in
       subst (λ i. i ≤ suc n * (5 * s.columns + 2)) (sym both)
       (one_more n (5 * s.columns + 2) (length first) (length rest)
@@ -189,14 +189,14 @@ module _ (f : ℕ → Look) where
   cursor_few true s g full on plain =
       let inside : g.cursor.row < length g.rows = omega (arith, on.row, full.height) in
       let h = get_few s 0 g.rows g.cursor.row inside plain full.width in
-      let few : length (row_pieces f g.cursor.row (row_of_cursor g))
+      let few : length (row_parts f g.cursor.row (row_of_cursor g))
       ≤ 5 * length (row_of_cursor g) =
       cells_few g.cursor.row (row_of_cursor g) h.0 0 false in
       let wide : length (row_of_cursor g) ≡ s.columns = h.1 in
       omega (arith, few, wide)
   cursor_few false s g full on plain = omega arith
 
-  both_few : (s : Size) (a b : List Piece) → length a ≤ s.rows * (5 * s.columns + 2)
+  both_few : (s : Size) (a b : List Part) → length a ≤ s.rows * (5 * s.columns + 2)
       → length b ≤ 5 * s.columns + 2
       → length (a ++ b) ≤ (s.rows + 1) * (5 * s.columns + 2)
   both_few s a b h e =
@@ -209,25 +209,25 @@ module _ (f : ℕ → Look) where
 
   paint_few : (s : Size) (g : Grid) → IsFull s g.rows → IsOn s g.cursor
       → AllLookPlain f g.rows
-      → length (paint_pieces f s g) ≤ (s.rows + 1) * (5 * s.columns + 2) + 2
+      → length (paint_parts f s g) ≤ (s.rows + 1) * (5 * s.columns + 2) + 2
   paint_few s g full on plain =
       let all : 0 + s.rows ≤ length g.rows = omega (arith, full.height) in
       let m = (s.rows + 1) * (5 * s.columns + 2) in
-      let few : length (rows_pieces f g.rows 0 s.rows ++ cursor_pieces f s g) ≤ m =
-      both_few s (rows_pieces f g.rows 0 s.rows) (cursor_pieces f s g)
+      let few : length (rows_parts f g.rows 0 s.rows ++ cursor_parts f s g) ≤ m =
+      both_few s (rows_parts f g.rows 0 s.rows) (cursor_parts f s g)
       (rows_few s g.rows 0 s.rows all plain full.width)
       (cursor_few (is_waiting s g) s g full on plain) in
       omega (arith, few)
 
   led_few : (e : ℕ → Look) (s : Size) (xss : List (List Cell)) (g : Grid) → IsFull s g.rows
       → IsOn s g.cursor → AllLookPlain f g.rows
-      → length (soft_reset ∷ (rows_changes e f xss g.rows 0 s.rows ++ cursor_pieces f s g))
+      → length (soft_reset ∷ (rows_changes e f xss g.rows 0 s.rows ++ cursor_parts f s g))
       ≤ (s.rows + 1) * (5 * s.columns + 2) + 2
   led_few e s xss g full on plain =
       let all : 0 + s.rows ≤ length g.rows = omega (arith, full.height) in
       let m = (s.rows + 1) * (5 * s.columns + 2) in
-      let few : length (rows_changes e f xss g.rows 0 s.rows ++ cursor_pieces f s g) ≤ m =
-      both_few s (rows_changes e f xss g.rows 0 s.rows) (cursor_pieces f s g)
+      let few : length (rows_changes e f xss g.rows 0 s.rows ++ cursor_parts f s g) ≤ m =
+      both_few s (rows_changes e f xss g.rows 0 s.rows) (cursor_parts f s g)
       (changes_few e s xss g.rows 0 s.rows all plain full.width)
       (cursor_few (is_waiting s g) s g full on plain) in
       omega (arith, few)
@@ -237,11 +237,11 @@ module _ (f : ℕ → Look) where
 scaled : (a n m : ℕ) → a ≤ 14 * n → n ≤ m → a ≤ 14 * m
 scaled a n m h e = omega (arith, h, e)
 
--- the text of pieces that fit, and are so few
-text_short : (ps : List Piece) (m : ℕ) → AllFit ps → length ps ≤ m
-    → length (pieces_text ps) ≤ 14 * m
+-- the text of parts that fit, and are so few
+text_short : (ps : List Part) (m : ℕ) → AllFit ps → length ps ≤ m
+    → length (parts_text ps) ≤ 14 * m
 text_short ps m fits few =
-    scaled (length (pieces_text ps)) (length ps) m (pieces_short ps fits) few
+    scaled (length (parts_text ps)) (length ps) m (parts_short ps fits) few
 
 abbrev most : Size → ℕ
 most s = (s.rows + 1) * (5 * s.columns + 2) + 2
@@ -250,25 +250,25 @@ painted_short : (k : ℕ → Look) (s : Size) (h : Grid) → IsPaintable k s h
     → length (painting_text k s h) ≤ 14 * most s
 painted_short k s h can =
     let on = can.sound.cursor in
-    text_short (paint_pieces k s h) (most s)
+    text_short (paint_parts k s h) (most s)
     (paint_fits k s h can.sound.rows on can.size.0 can.size.1 can.drawn can.plain)
     (paint_few k s h can.sound.rows on can.plain)
 
 led_short : (t : Bool) (f k : ℕ → Look) (s : Size) (xss : List (List Cell)) (h : Grid)
     → IsPaintable k s h
-    → length (pieces_text (if t then []
-    else soft_reset ∷ (rows_changes f k xss h.rows 0 s.rows ++ cursor_pieces k s h)))
+    → length (parts_text (if t then []
+    else soft_reset ∷ (rows_changes f k xss h.rows 0 s.rows ++ cursor_parts k s h)))
     ≤ 14 * most s
 led_short true f k s xss h can = omega arith
 led_short false f k s xss h can =
     let on = can.sound.cursor in
-    text_short (soft_reset ∷ (rows_changes f k xss h.rows 0 s.rows ++ cursor_pieces k s h))
+    text_short (soft_reset ∷ (rows_changes f k xss h.rows 0 s.rows ++ cursor_parts k s h))
     (most s)
     (led_fits k f s xss h can.sound.rows on can.size.0 can.size.1 can.drawn can.plain)
     (led_few k f s xss h can.sound.rows on can.plain)
 
 by_size : (t : Bool) (f k : ℕ → Look) (q s : Size) (g h : Grid) → IsPaintable k s h
-    → length (if t then pieces_text (change_pieces f k q s g h) else painting_text k s h)
+    → length (if t then parts_text (change_parts f k q s g h) else painting_text k s h)
     ≤ 14 * most s
 by_size true f k q s g h can = led_short (same_screen f k q s g h) f k s g.rows h can
 by_size false f k q s g h can = painted_short k s h can

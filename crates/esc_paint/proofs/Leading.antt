@@ -19,10 +19,10 @@ use Rattle.esc_screen.specs.declared.motion.Motion.TheVariants as motion
 use Rattle.esc_screen.specs.declared.setting.Setting.TheVariants as setting
 use Rattle.esc_screen.specs.declared.step.Step.TheVariants as step
 use Rattle.esc_terminal.specs.Looks.{erased_look}
-use Rattle.esc_paint.specs.Pieces.{Piece, place, soft_reset}
+use Rattle.esc_paint.specs.Parts.{Part, place, soft_reset}
 use Rattle.esc_paint.specs.declared.pen.Pen.{Pen}
-use Rattle.esc_paint.specs.Painting.{cells_pieces, cursor_pieces, ends_drawn, first_pen, is_waiting, pen_by, row_again}
-use Rattle.esc_paint.specs.Differences.{here_pen, is_other, rest_pieces, row_changes, rows_changes, same_cells}
+use Rattle.esc_paint.specs.Painting.{cells_parts, cursor_parts, ends_drawn, first_pen, is_waiting, pen_by, row_again}
+use Rattle.esc_paint.specs.Differences.{here_pen, is_other, rest_parts, row_changes, rows_changes, same_cells}
 use Rattle.esc_paint.specs.Drawn.{AllDrawn, AreDrawn}
 use Rattle.esc_paint.specs.Laws.{contents_of}
 use Rattle.esc_paint.proofs.Rows.{Draws, Has, begins_free, has_at, has_erased}
@@ -102,7 +102,7 @@ cut_at all i x rest h =
 module _ (number : Look → ℕ) (same : (a b : Look) → same_look a b ≡ true
     → (number a ≡ number b) × (number (erased_look a) ≡ number (erased_look b))) (k : ℕ → Look)
     (s : Size) (zero_is : number plain_look ≡ 0) where
-  abbrev runs : Grid → List Piece → Grid
+  abbrev runs : Grid → List Part → Grid
   runs = run number same k s
 
   abbrev paints : Pen → List Cell → List Cell
@@ -140,7 +140,7 @@ module _ (number : Look → ℕ) (same : (a b : Look) → same_look a b ≡ true
       → begins_free (drop n us) ≡ true → GoOn false (drop n ys) → AreDrawn ys
       → length us ≡ s.columns → length ys ≡ s.columns → length above < s.rows → Draws e0 e0 g
       → g.rows ≡ above ++ us ∷ below
-      → HasRow above below ys (runs g (rest_pieces k (length above) n ys))
+      → HasRow above below ys (runs g (rest_parts k (length above) n ys))
   rest_led above below us ys n g less same_part free go_on drawn wide full inside draws rows =
       let r = length above in
       let p = take n us in
@@ -176,7 +176,7 @@ module _ (number : Look → ℕ) (same : (a b : Look) → same_look a b ≡ true
       gone) in
       let done = cells_painted number same k s above below xs (drawn_drop n ys drawn) false here_pen
       p z go_on all blanked in
-      let last = runs z (cells_pieces k r (length p) here_pen xs) in
+      let last = runs z (cells_parts k r (length p) here_pen xs) in
       let led : HasRow above below ys last = record {
         row = p ++ paints here_pen xs;
         shows = map-append (λ (x : Cell). x.content) p (paints here_pen xs)
@@ -187,7 +187,7 @@ module _ (number : Look → ℕ) (same : (a b : Look) → same_look a b ≡ true
         draws = done.draws;
         rows = done.rows;
       } in
-      subst (λ i. HasRow above below ys (runs z (cells_pieces k r i here_pen xs))) len led
+      subst (λ i. HasRow above below ys (runs z (cells_parts k r i here_pen xs))) len led
 
   -- all of it
   row_led : (f : ℕ → Look) (above below : List (List Cell)) (us xs ys : List Cell) (g : Grid)
@@ -200,7 +200,7 @@ module _ (number : Look → ℕ) (same : (a b : Look) → same_look a b ≡ true
     where
       by_test : (t : Bool) → is_other f k xs ys ≡ t
           → HasRow above below ys (runs g (if t
-          then rest_pieces k (length above) (same_cells f k xs ys) ys
+          then rest_parts k (length above) (same_cells f k xs ys) ys
           else []))
       by_test true is =
           let h = parts f k false us xs ys shows whole other (wide ∙ sym full) in
@@ -219,7 +219,7 @@ module _ (number : Look → ℕ) (same : (a b : Look) → same_look a b ≡ true
 
   -- ---- rows, one after another
 
-  abbrev listed : (ℕ → Look) → ℕ → List (List Cell) → List (List Cell) → List Piece
+  abbrev listed : (ℕ → Look) → ℕ → List (List Cell) → List (List Cell) → List Part
   listed f r xss [] = []
   listed f r [] (ys ∷ yss) = []
   listed f r (xs ∷ xss) (ys ∷ yss) = row_changes f k r xs ys ++ listed f (r + 1) xss yss
@@ -376,7 +376,7 @@ module _ (number : Look → ℕ) (same : (a b : Look) → same_look a b ≡ true
       → contents_of g.rows ≡ contents_of q.rows → AreWhole h.rows → AllDrawn h.rows
       → IsFull s h.rows → IsOn s h.cursor
       → Shows h (is_waiting s h)
-      (runs g (soft_reset ∷ (rows_changes f k q.rows h.rows 0 s.rows ++ cursor_pieces k s h)))
+      (runs g (soft_reset ∷ (rows_changes f k q.rows h.rows 0 s.rows ++ cursor_parts k s h)))
   led f g q h old whole shows other drawn full on =
       let z = grid_by s g (step.Set setting.SoftReset) in
       let reset : Draws 0 0 z = record {
@@ -394,11 +394,11 @@ module _ (number : Look → ℕ) (same : (a b : Look) → same_look a b ≡ true
       let done = rows_led f [] g.rows q.rows h.rows z shows whole other drawn old.width full.width
       high all draws refl in
       let ps = listed f 0 q.rows h.rows in
-      let same_pieces : rows_changes f k q.rows h.rows 0 s.rows ≡ ps =
+      let same_parts : rows_changes f k q.rows h.rows 0 s.rows ≡ ps =
       ap (rows_changes f k q.rows h.rows 0) (sym full.height)
       ∙ listed_is f q.rows h.rows q.rows h.rows 0 refl refl both in
-      let last = cursor_pieces k s h in
+      let last = cursor_parts k s h in
       subst (Shows h (is_waiting s h))
-      (sym (ap (λ rs. runs z (rs ++ last)) same_pieces ∙ run_two number same k s z ps last))
+      (sym (ap (λ rs. runs z (rs ++ last)) same_parts ∙ run_two number same k s z ps last))
       (cursor_led (is_waiting s h) h (runs z ps) refl other drawn full on done.draws
       (ap contents_of done.rows ∙ done.shows))

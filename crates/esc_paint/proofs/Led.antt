@@ -18,18 +18,18 @@ use Rattle.esc_screen.proofs.StaysWhole.{stays_whole}
 use Rattle.esc_screen.specs.declared.cell.Cell.{Cell}
 use Rattle.esc_terminal.specs.Laws.{GoesOn, IsAlwaysSound, IsAlwaysWhole}
 use Rattle.esc_terminal.specs.Streams.{shown_after, shown_of, values_of}
-use Rattle.esc_paint.specs.Pieces.{Piece, piece_step, pieces_text, soft_reset}
-use Rattle.esc_paint.specs.Painting.{cursor_pieces, is_waiting, painting_text}
-use Rattle.esc_paint.specs.Differences.{change_pieces, difference, differences, is_other, last_grid, rows_changes, same_cursor, same_rows, same_screen, same_size}
+use Rattle.esc_paint.specs.Parts.{Part, part_step, parts_text, soft_reset}
+use Rattle.esc_paint.specs.Painting.{cursor_parts, is_waiting, painting_text}
+use Rattle.esc_paint.specs.Differences.{change_parts, difference, differences, is_other, last_grid, rows_changes, same_cursor, same_rows, same_screen, same_size}
 use Rattle.esc_paint.specs.Laws.{ArePaintable, IsPaintable, Leads, LeadsOn, LeadsOver, SaysNothing, ShowsSame, contents_of}
 use Rattle.esc_paint.proofs.Changing.{none_text}
 use Rattle.esc_paint.proofs.Leading.{cut_at, led, same_height, wide_as}
 use Rattle.esc_paint.proofs.Painted.{run_two}
-use Rattle.esc_paint.proofs.Pieces.{AllFit, all_read, all_shown, readings, text_is}
+use Rattle.esc_paint.proofs.Parts.{AllFit, all_read, all_shown, readings, text_is}
 use Rattle.esc_paint.proofs.Plain.{fit_two, led_fits}
 use Rattle.esc_paint.proofs.Alike.{all_same, bool_is, bool_same, both_same, number_same, same_contents}
 use Rattle.esc_paint.proofs.Shown.{number, same}
-use Rattle.esc_paint.proofs.Writing.{pieces_two}
+use Rattle.esc_paint.proofs.Writing.{parts_two}
 use Rattle.esc_paint.proofs.Texts.{all_values, texts_mean}
 
 -- ---- screens that are the same
@@ -88,19 +88,19 @@ size_same : (s : Size) → same_size s s ≡ true
 size_same s = both_same _ _ (number_same s.rows) (number_same s.columns)
 
 by_size : (f k : ℕ → Look) (s : Size) (g h : Grid)
-    → difference f k s s g h ≡ pieces_text (change_pieces f k s s g h)
+    → difference f k s s g h ≡ parts_text (change_parts f k s s g h)
 by_size f k s g h =
-    ap (λ t. if t then pieces_text (change_pieces f k s s g h) else painting_text k s h)
+    ap (λ t. if t then parts_text (change_parts f k s s g h) else painting_text k s h)
         (size_same s)
 
--- the pieces are read, and lead there
-abbrev Goes : (f k : ℕ → Look) → Size → Grid → Grid → Grid → List Piece → Type 0
-Goes f k s t g h ps = AllFit ps × ShowsSame s h (grid_from s t (map (piece_step number) ps))
+-- the parts are read, and lead there
+abbrev Goes : (f k : ℕ → Look) → Size → Grid → Grid → Grid → List Part → Type 0
+Goes f k s t g h ps = AllFit ps × ShowsSame s h (grid_from s t (map (part_step number) ps))
 
 goes_by : (b : Bool) (f k : ℕ → Look) (s : Size) (t g h : Grid) → IsSound s t → AreWhole t.rows
     → ShowsSame s g t → IsPaintable k s h → same_screen f k s s g h ≡ b
     → Goes f k s t g h (if b then [] else soft_reset
-    ∷ (rows_changes f k g.rows h.rows 0 s.rows ++ cursor_pieces k s h))
+    ∷ (rows_changes f k g.rows h.rows 0 s.rows ++ cursor_parts k s h))
 goes_by true f k s t g h old whole shows can is = (tt, shows_as f k s t g h old shows can is)
 goes_by false f k s t g h old whole shows can is =
     let e = led number same k s refl f t g h old.rows whole shows.contents can.whole can.drawn
@@ -117,48 +117,48 @@ goes_by false f k s t g h old whole shows can is =
 
 pub leads_any : (A : Type 0) → MeansItsSegments A → Leads A
 leads_any A means = λ f k s t g h old whole shows can.
-    let ps = change_pieces f k s s g h in
+    let ps = change_parts f k s s g h in
     let go = goes_by (same_screen f k s s g h) f k s t.grid g h old whole shows can refl in
     let meant : values_of A (difference f k s s g h) ≡ all_values (readings {A = A} ps) =
     ap (meaning_within {A = A} (Some 0x1000)) (by_size f k s g h ∙ sym (text_is A ps))
     ∙ texts_mean {A = A} means (Some 0x1000) (readings ps) (all_read A ps go.0) in
     let shown = ap (shown_after {A = A} s t) meant ∙ all_shown A s t ps number go.0 in
-    let z = grid_from s t.grid (map (piece_step number) ps) in
+    let z = grid_from s t.grid (map (part_step number) ps) in
     let is : (shown_after s t (values_of A (difference f k s s g h))).grid ≡ z =
     ap (λ x. x.grid) shown in
     subst (ShowsSame s h) (sym is) go.1
 
 -- ---- screens, one after another
 
-abbrev series : (ℕ → Look) → Size → Grid → List ((ℕ → Look) × Grid) → List Piece
+abbrev series : (ℕ → Look) → Size → Grid → List ((ℕ → Look) × Grid) → List Part
 series f s g [] = []
-series f s g (h ∷ hs) = change_pieces f h.0 s s g h.1 ++ series h.0 s h.1 hs
+series f s g (h ∷ hs) = change_parts f h.0 s s g h.1 ++ series h.0 s h.1 hs
 
 series_text : (f : ℕ → Look) (s : Size) (g : Grid) (hs : List ((ℕ → Look) × Grid))
-    → differences f s g hs ≡ pieces_text (series f s g hs)
+    → differences f s g hs ≡ parts_text (series f s g hs)
 series_text f s g [] = refl
 series_text f s g (h ∷ hs) =
-    let ps = change_pieces f h.0 s s g h.1 in
+    let ps = change_parts f h.0 s s g h.1 in
     ap (λ z. z ++ differences h.0 s h.1 hs) (by_size f h.0 s g h.1)
-    ∙ ap (λ z. pieces_text ps ++ z) (series_text h.0 s h.1 hs)
-    ∙ sym (pieces_two ps (series h.0 s h.1 hs))
+    ∙ ap (λ z. parts_text ps ++ z) (series_text h.0 s h.1 hs)
+    ∙ sym (parts_two ps (series h.0 s h.1 hs))
 
--- the pieces of all are read, and lead to the last one
+-- the parts of all are read, and lead to the last one
 abbrev AllGo : (ℕ → Look) → Size → Grid → Grid → List ((ℕ → Look) × Grid) → Type 0
 AllGo f s t g hs = AllFit (series f s g hs)
-    × ShowsSame s (last_grid g hs) (grid_from s t (map (piece_step number) (series f s g hs)))
+    × ShowsSame s (last_grid g hs) (grid_from s t (map (part_step number) (series f s g hs)))
 
 all_go : (f : ℕ → Look) (s : Size) (t g : Grid) (hs : List ((ℕ → Look) × Grid)) → IsSound s t
     → HasWholeRows t → ShowsSame s g t → ArePaintable s hs → AllGo f s t g hs
 all_go f s t g [] old whole shows can = (tt, shows)
 all_go f s t g (h ∷ hs) old whole shows can =
     let k = h.0 in
-    let ps = change_pieces f k s s g h.1 in
+    let ps = change_parts f k s s g h.1 in
     let qs = series k s h.1 hs in
     let first = goes_by (same_screen f k s s g h.1) f k s t g h.1 old whole.rows shows can.0 refl in
-    let z = grid_from s t (map (piece_step number) ps) in
-    let rest = all_go k s z h.1 hs (stays_sound s t (map (piece_step number) ps) old)
-    (stays_whole s t (map (piece_step number) ps) old whole) first.1 can.1 in (
+    let z = grid_from s t (map (part_step number) ps) in
+    let rest = all_go k s z h.1 hs (stays_sound s t (map (part_step number) ps) old)
+    (stays_whole s t (map (part_step number) ps) old whole) first.1 can.1 in (
       fit_two ps qs first.0 rest.0,
       subst (ShowsSame s (last_grid h.1 hs)) (sym (run_two number same k s t ps qs)) rest.1,
     )
@@ -171,7 +171,7 @@ leads_on A means = λ f s t g hs old whole shows can.
     ap (meaning_within {A = A} (Some 0x1000)) (series_text f s g hs ∙ sym (text_is A ps))
     ∙ texts_mean {A = A} means (Some 0x1000) (readings ps) (all_read A ps go.0) in
     let shown = ap (shown_after {A = A} s t) meant ∙ all_shown A s t ps number go.0 in
-    let z = grid_from s t.grid (map (piece_step number) ps) in
+    let z = grid_from s t.grid (map (part_step number) ps) in
     let is : (shown_after s t (values_of A (differences f s g hs))).grid ≡ z =
     ap (λ x. x.grid) shown in
     subst (ShowsSame s (last_grid g hs)) (sym is) go.1

@@ -4,7 +4,7 @@ mod Screens
 mod Alike
 mod Leading
 mod Texts
-mod Pieces
+mod Parts
 mod Plain
 mod Shown
 mod Led

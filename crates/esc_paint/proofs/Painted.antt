@@ -17,9 +17,9 @@ use Rattle.esc_screen.specs.declared.step.Step.TheVariants as step
 use Rattle.esc_screen.proofs.Runs.{in_chunks}
 use Rattle.esc_terminal.specs.Looks.{erased_look}
 use Rattle.esc_terminal.specs.Steps.{print_step}
-use Rattle.esc_paint.specs.Pieces.{Piece, character, erase_right, look, piece_step}
+use Rattle.esc_paint.specs.Parts.{Part, character, erase_right, look, part_step}
 use Rattle.esc_paint.specs.declared.pen.Pen.{Pen}
-use Rattle.esc_paint.specs.Painting.{blank_pieces, cells_pieces, drawn_pieces, content_pieces, look_change, marks_pieces, pen_blank, pen_by, pen_drawn, place_change}
+use Rattle.esc_paint.specs.Painting.{blank_parts, cells_parts, drawn_parts, content_parts, look_change, marks_parts, pen_blank, pen_by, pen_drawn, place_change}
 use Rattle.esc_paint.specs.Drawn.{AreDrawn, AreMarks, IsDrawn, IsMarked}
 use Rattle.esc_paint.proofs.Rows.{Has, begins_free, has_at, has_erased, has_mark, has_narrow, has_selected, has_wide}
 
@@ -27,12 +27,12 @@ use Rattle.esc_paint.proofs.Rows.{Has, begins_free, has_at, has_erased, has_mark
 module _ (number : Look → ℕ) (same : (a b : Look) → same_look a b ≡ true
     → (number a ≡ number b) × (number (erased_look a) ≡ number (erased_look b))) (f : ℕ → Look)
     (s : Size) where
-  abbrev pub run : Grid → List Piece → Grid
-  run g ps = grid_from s g (map (piece_step number) ps)
+  abbrev pub run : Grid → List Part → Grid
+  run g ps = grid_from s g (map (part_step number) ps)
 
-  pub run_two : (g : Grid) (ps qs : List Piece) → run g (ps ++ qs) ≡ run (run g ps) qs
-  run_two g ps qs = ap (grid_from s g) (map-append (piece_step number) ps qs)
-      ∙ in_chunks s g (map (piece_step number) ps) (map (piece_step number) qs)
+  pub run_two : (g : Grid) (ps qs : List Part) → run g (ps ++ qs) ≡ run (run g ps) qs
+  run_two g ps qs = ap (grid_from s g) (map-append (part_step number) ps qs)
+      ∙ in_chunks s g (map (part_step number) ps) (map (part_step number) qs)
 
   -- ---- the cells that are painted
 
@@ -122,7 +122,7 @@ module _ (number : Look → ℕ) (same : (a b : Look) → same_look a b ≡ true
             first = a;
             second = b;
             others = o;
-          }) (run g (marks_pieces (record {
+          }) (run g (marks_parts (record {
             first = a;
             second = b;
             others = o;
@@ -142,7 +142,7 @@ module _ (number : Look → ℕ) (same : (a b : Look) → same_look a b ≡ true
           (one_mark a no_marks g d.0.0 h))
 
       has_marks : (m : Marks) (g : Grid) → IsMarked m → HasMarks no_marks g
-          → HasMarks m (run g (marks_pieces m))
+          → HasMarks m (run g (marks_parts m))
       has_marks m g d h = each_mark m.first m.second m.others g d h
 
     -- ---- cells
@@ -168,7 +168,7 @@ module _ (number : Look → ℕ) (same : (a b : Look) → same_look a b ≡ true
         → HasIn above below p.look p.here (length done + past w)
         (done ++ tail w (number p.look) (number p.back) (length xs)) g
         → HasIn above below plain_look (pen_after p xs).here (length done + length xs)
-        (done ++ painted_cells p xs) (run g (cells_pieces f r (length done) p xs))
+        (done ++ painted_cells p xs) (run g (cells_parts f r (length done) p xs))
 
     no_cells : Paints []
     no_cells true p done g go all h = absurd (true≢false go)
@@ -181,7 +181,7 @@ module _ (number : Look → ℕ) (same : (a b : Look) → same_look a b ≡ true
         → HasIn above below q.look q.here (length done + 1 + past w)
         (done ++ y ∷ tail w (number q.look) (number q.back) (length xs)) g
         → HasIn above below plain_look (pen_after q xs).here (length done + length (y ∷ xs))
-        (done ++ y ∷ painted_cells q xs) (run g (cells_pieces f r (length done + 1) q xs))
+        (done ++ y ∷ painted_cells q xs) (run g (cells_parts f r (length done + 1) q xs))
     one_more y xs p q done g w each go all h =
         let more = done ++ y ∷ [] in
         let len : length more ≡ length done + 1 = length_push done y in
@@ -195,11 +195,11 @@ module _ (number : Look → ℕ) (same : (a b : Look) → same_look a b ≡ true
         (done ++ y ∷ t) (more ++ t) g column (sym (append_assoc done (y ∷ []) t)) h) in
         subst (λ i. HasIn above below plain_look (pen_after q xs).here
         (length done + length (y ∷ xs)) (done ++ y ∷ painted_cells q xs)
-        (run g (cells_pieces f r i q xs))) len
+        (run g (cells_parts f r i q xs))) len
         (has_by above below (number plain_look) (number (erased_look plain_look))
         (pen_after q xs).here (length more + length xs) (length done + length (y ∷ xs))
         (more ++ painted_cells q xs) (done ++ y ∷ painted_cells q xs)
-        (run g (cells_pieces f r (length more) q xs)) end
+        (run g (cells_parts f r (length more) q xs)) end
         (append_assoc done (y ∷ []) (painted_cells q xs)) k)
 
     -- the cursor at a cell, and the look of a character
@@ -212,14 +212,14 @@ module _ (number : Look → ℕ) (same : (a b : Look) → same_look a b ≡ true
         (has_placed (number p.look) (number (erased_look p.look)) p.here n xs g less h)
 
     drawn_run : (n : ℕ) (p : Pen) (c : ℕ) (m : Marks) (l : Look) (g : Grid)
-        → run g (drawn_pieces r n p c m l)
+        → run g (drawn_parts r n p c m l)
         ≡ run (run (run (run g (place_change p.here r n)) (look_change p.look l))
             (character c ∷ []))
-        (marks_pieces m)
+        (marks_parts m)
     drawn_run n p c m l g =
-        run_two g (place_change p.here r n) (look_change p.look l ++ (character c ∷ marks_pieces m))
+        run_two g (place_change p.here r n) (look_change p.look l ++ (character c ∷ marks_parts m))
         ∙ run_two (run g (place_change p.here r n)) (look_change p.look l)
-            (character c ∷ marks_pieces m)
+            (character c ∷ marks_parts m)
 
     -- a character of one column
     narrow_done : (p : Pen) (l : Look) (c : ℕ) (m : Marks) (done ys : List Cell) (x : Cell)
@@ -228,7 +228,7 @@ module _ (number : Look → ℕ) (same : (a b : Look) → same_look a b ≡ true
         → HasIn above below p.look p.here (length done) (done ++ x ∷ ys) g
         → HasIn above below l true (length done + 1)
         (done ++ cell (content.Narrow c m) (number l) ∷ ys)
-        (run g (drawn_pieces r (length done) p c m l))
+        (run g (drawn_parts r (length done) p c m l))
     narrow_done p l c m done ys x g less here next is marked h =
         let n = length done in
         let at = run (run g (place_change p.here r n)) (look_change p.look l) in
@@ -263,7 +263,7 @@ module _ (number : Look → ℕ) (same : (a b : Look) → same_look a b ≡ true
         → HasIn above below p.look p.here (length done) (done ++ x ∷ y ∷ ys) g
         → HasIn above below l true (length done + 2)
         (done ++ cell (content.Wide c m) (number l) ∷ cell content.Rest (number l) ∷ ys)
-        (run g (drawn_pieces r (length done) p c m l))
+        (run g (drawn_parts r (length done) p c m l))
     wide_done p l c m done ys x y g less here next is marked h =
         let n = length done in
         let rest = cell content.Rest (number l) in
@@ -284,7 +284,7 @@ module _ (number : Look → ℕ) (same : (a b : Look) → same_look a b ≡ true
         second_at done (cell (content.Wide c k) (number l)) rest ys refl in
         subst (λ k. HasIn above below l true k
         (done ++ cell (content.Wide c m) (number l) ∷ rest ∷ ys)
-        (run g (drawn_pieces r n p c m l))) (sym two)
+        (run g (drawn_parts r n p c m l))) (sym two)
         (subst (HasIn above below l true (n + 1 + 1)
         (done ++ cell (content.Wide c m) (number l) ∷ rest ∷ ys))
         (sym (drawn_run n p c m l g))
@@ -315,7 +315,7 @@ module _ (number : Look → ℕ) (same : (a b : Look) → same_look a b ≡ true
           back = b;
         }
 
-    abbrev blanking : Bool → ℕ → Pen → Look → List Piece
+    abbrev blanking : Bool → ℕ → Pen → Look → List Part
     blanking t n p b = if t then []
         else place_change p.here r n ++ (look_change p.look b ++ (erase_right ∷ []))
 
@@ -365,13 +365,13 @@ module _ (number : Look → ℕ) (same : (a b : Look) → same_look a b ≡ true
       joined = j;
     }
 
-    -- after the pieces of a cell those of the others
+    -- after the parts of a cell those of the others
     then_run : (n : ℕ) (p : Pen) (x : Cell) (xs : List Cell) (g : Grid)
-        → run g (cells_pieces f r n p (x ∷ xs))
-        ≡ run (run g (content_pieces r n p (f x.look) x.content))
-        (cells_pieces f r (n + 1) (pen_by p (f x.look) x.content) xs)
-    then_run n p x xs g = run_two g (content_pieces r n p (f x.look) x.content)
-        (cells_pieces f r (n + 1) (pen_by p (f x.look) x.content) xs)
+        → run g (cells_parts f r n p (x ∷ xs))
+        ≡ run (run g (content_parts r n p (f x.look) x.content))
+        (cells_parts f r (n + 1) (pen_by p (f x.look) x.content) xs)
+    then_run n p x xs g = run_two g (content_parts r n p (f x.look) x.content)
+        (cells_parts f r (n + 1) (pen_by p (f x.look) x.content) xs)
 
     abbrev Ends : List Cell → Pen → List Cell → Grid → Type 0
     Ends xs p done z = HasIn above below plain_look (pen_after p xs).here (length done + length xs)
@@ -385,7 +385,7 @@ module _ (number : Look → ℕ) (same : (a b : Look) → same_look a b ≡ true
         let b = erased_look (f l) in
         subst (Ends (x ∷ xs) p done) (sym (then_run (length done) p x xs g))
         (one_more (blank (number b)) xs p (pen_blank b p) done
-        (run g (blank_pieces r (length done) p b)) false each go.1 all
+        (run g (blank_parts r (length done) p b)) false each go.1 all
         (blank_by (same_look p.back b) p (f l) (length xs) done g (λ t. (same p.back b t).0) all h))
 
     narrow_painted : (c : ℕ) (m : Marks) (l : ℕ) (j : Bool) (xs : List Cell)
@@ -406,7 +406,7 @@ module _ (number : Look → ℕ) (same : (a b : Look) → same_look a b ≡ true
         let put = narrow_done p k c m done ys (blank e) g less refl free d.0.0
         d.1 (has_by above below (number p.look) (number (erased_look p.look)) p.here (n + 0) n
         (done ++ blank e ∷ ys) (done ++ blank e ∷ ys) g none refl h) in
-        let at = run g (drawn_pieces r n p c m k) in
+        let at = run g (drawn_parts r n p c m k) in
         subst (Ends (x ∷ xs) p done) (sym (then_run n p x xs g))
         (one_more y xs p (pen_drawn k p) done at false each go.1 all
         (has_by above below (number k) (number (erased_look k)) true (n + 1) (n + 1 + 0)
@@ -432,7 +432,7 @@ module _ (number : Look → ℕ) (same : (a b : Look) → same_look a b ≡ true
         (blanks_free (length zs) e) d.0.0 d.1
         (has_by above below (number p.look) (number (erased_look p.look)) p.here (n + 0) n
         (done ++ blank e ∷ blank e ∷ ys) (done ++ blank e ∷ blank e ∷ ys) g none refl h) in
-        let at = run g (drawn_pieces r n p c m k) in
+        let at = run g (drawn_parts r n p c m k) in
         subst (Ends (x ∷ xs) p done) (sym (then_run n p x xs g))
         (one_more y xs p (pen_drawn k p) done at true each go.1 all
         (has_by above below (number k) (number (erased_look k)) true (n + 2) (n + 1 + 1)

@@ -20,9 +20,9 @@ use Rattle.esc_screen.specs.declared.motion.Motion.TheVariants as motion
 use Rattle.esc_screen.specs.declared.setting.Setting.TheVariants as setting
 use Rattle.esc_screen.specs.declared.step.Step.TheVariants as step
 use Rattle.esc_terminal.specs.Looks.{erased_look}
-use Rattle.esc_paint.specs.Pieces.{Piece, place}
+use Rattle.esc_paint.specs.Parts.{Part, place}
 use Rattle.esc_paint.specs.declared.pen.Pen.{Pen}
-use Rattle.esc_paint.specs.Painting.{cursor_pieces, ends_drawn, first_pen, is_blank_content, is_waiting, paint_pieces, pen_by, row_again, row_pieces, rows_pieces}
+use Rattle.esc_paint.specs.Painting.{cursor_parts, ends_drawn, first_pen, is_blank_content, is_waiting, paint_parts, pen_by, row_again, row_parts, rows_parts}
 use Rattle.esc_paint.specs.Drawn.{AllDrawn, AreDrawn}
 use Rattle.esc_paint.proofs.Rows.{Draws, Has, begins_free, has_at, has_erased, positioned}
 use Rattle.esc_paint.proofs.Painted.{cells_painted, painted_cell, painted_cells, pen_after, run, run_two}
@@ -94,10 +94,10 @@ ends_more x y xs =
 module _ (number : Look → ℕ) (same : (a b : Look) → same_look a b ≡ true
     → (number a ≡ number b) × (number (erased_look a) ≡ number (erased_look b))) (f : ℕ → Look)
     (s : Size) (zero_is : number plain_look ≡ 0) where
-  abbrev go : Grid → List Piece → Grid
+  abbrev go : Grid → List Part → Grid
   go = run number same f s
 
-  abbrev two : (g : Grid) (ps qs : List Piece) → go g (ps ++ qs) ≡ go (go g ps) qs
+  abbrev two : (g : Grid) (ps qs : List Part) → go g (ps ++ qs) ≡ go (go g ps) qs
   two = run_two number same f s
 
   abbrev pub painted_row : List Cell → List Cell
@@ -123,12 +123,12 @@ module _ (number : Look → ℕ) (same : (a b : Look) → same_look a b ≡ true
       → Has s above below e0 e0 here 0 (replicate (length xs) (blank e0)) g
       → here ≡ false
       → Has s above below e0 e0 (after first_pen xs).here (length xs) (painted_row xs)
-      (go g (row_pieces f (length above) xs))
+      (go g (row_parts f (length above) xs))
   row_painted above below xs g here whole drawn wide h away =
       let none : 0 + length xs ≡ length xs = omega arith in
       let all : 0 + length xs ≡ s.columns = omega (arith, wide) in
       subst (λ k. Has s above below e0 e0 (after first_pen xs).here k (painted_row xs)
-      (go g (row_pieces f (length above) xs))) none
+      (go g (row_parts f (length above) xs))) none
       (cells_painted number same f s above below xs drawn false first_pen [] g whole all
       (subst (λ b. Has s above below e0 e0 b 0 (replicate (length xs) (blank e0)) g) away h))
 
@@ -146,9 +146,9 @@ module _ (number : Look → ℕ) (same : (a b : Look) → same_look a b ≡ true
   }
 
   -- rows, one after another
-  abbrev listed : ℕ → List (List Cell) → List Piece
+  abbrev listed : ℕ → List (List Cell) → List Part
   listed r [] = []
-  listed r (xs ∷ xss) = row_pieces f r xs ++ listed (r + 1) xss
+  listed r (xs ∷ xss) = row_parts f r xs ++ listed (r + 1) xss
 
   rows_painted : (xss above : List (List Cell)) (g : Grid) → AreWhole xss → AllDrawn xss
       → AreWide s.columns xss → length above + length xss ≡ s.rows → Draws e0 e0 g
@@ -162,7 +162,7 @@ module _ (number : Look → ℕ) (same : (a b : Look) → same_look a b ≡ true
       let less : r < s.rows = omega (arith, all) in
       let first = row_painted above below xs g false whole.0 drawn.0 wide.0
       (blank_has above xs xss g draws wide.0 less rows) refl in
-      let h = go g (row_pieces f r xs) in
+      let h = go g (row_parts f r xs) in
       let row = painted_row xs in
       let more = above ++ row ∷ [] in
       let len : length more ≡ r + 1 = length_push above row in
@@ -170,7 +170,7 @@ module _ (number : Look → ℕ) (same : (a b : Look) → same_look a b ≡ true
       let rest = rows_painted xss more h whole.1 drawn.1 wide.1 fits first.draws
       (first.rows ∙ sym (append_assoc above (row ∷ []) below)) in
       let split : go g (listed r (xs ∷ xss)) ≡ go h (listed (length more) xss) =
-      two g (row_pieces f r xs) (listed (r + 1) xss)
+      two g (row_parts f r xs) (listed (r + 1) xss)
       ∙ ap (λ k. go h (listed k xss)) (sym len) in (
         ap (λ z. z.rows) split ∙ rest.0 ∙ append_assoc above (row ∷ []) (map painted_row xss),
         subst (Draws e0 e0) (sym split) rest.1,
@@ -178,7 +178,7 @@ module _ (number : Look → ℕ) (same : (a b : Look) → same_look a b ≡ true
 
   -- they are all rows, by their places
   pub listed_is : (xss yss : List (List Cell)) (r : ℕ) → drop r yss ≡ xss
-      → rows_pieces f yss r (length xss) ≡ listed r xss
+      → rows_parts f yss r (length xss) ≡ listed r xss
   listed_is [] yss r e = refl
   listed_is (xs ∷ xss) yss r e =
       let all : length (drop r yss) ≡ length yss - r = length-drop r yss in
@@ -188,8 +188,8 @@ module _ (number : Look → ℕ) (same : (a b : Look) → same_look a b ≡ true
       sym (drop_more yss r [] less) ∙ e in
       let first : get_or yss r [] ≡ xs = cc in
       let rest : drop (r + 1) yss ≡ xss = cc in
-      ap (λ z. row_pieces f r z ++ rows_pieces f yss (r + 1) (length xss)) first
-      ∙ ap (λ z. row_pieces f r xs ++ z) (listed_is xss yss (r + 1) rest)
+      ap (λ z. row_parts f r z ++ rows_parts f yss (r + 1) (length xss)) first
+      ∙ ap (λ z. row_parts f r xs ++ z) (listed_is xss yss (r + 1) rest)
 
   -- ---- the cursor
 
@@ -359,7 +359,7 @@ module _ (number : Look → ℕ) (same : (a b : Look) → same_look a b ≡ true
   pub paints : (g q : Grid) → IsFull s g.rows → AreWhole q.rows → AllDrawn q.rows
       → IsFull s q.rows → IsOn s q.cursor
       → Ends (map painted_row q.rows) q.cursor.row q.cursor.column (is_waiting s q)
-      (go g (paint_pieces f s q))
+      (go g (paint_parts f s q))
   paints g q old whole drawn full on =
       let h = cleared s g in
       let xss = q.rows in
@@ -370,9 +370,9 @@ module _ (number : Look → ℕ) (same : (a b : Look) → same_look a b ≡ true
       ∙ ap (λ k. replicate (length xss) (blank_row k s.columns)) (sym zero_is) in
       let done = rows_painted xss [] h whole drawn full.width none draws rows in
       let z = go h (listed 0 xss) in
-      let same : rows_pieces f xss 0 s.rows ≡ listed 0 xss =
-      ap (rows_pieces f xss 0) (sym full.height) ∙ listed_is xss xss 0 refl in
+      let same : rows_parts f xss 0 s.rows ≡ listed 0 xss =
+      ap (rows_parts f xss 0) (sym full.height) ∙ listed_is xss xss 0 refl in
       subst (Ends (map painted_row xss) q.cursor.row q.cursor.column (is_waiting s q))
-      (sym (ap (λ ps. go h (ps ++ cursor_pieces f s q)) same
-      ∙ two h (listed 0 xss) (cursor_pieces f s q)))
+      (sym (ap (λ ps. go h (ps ++ cursor_parts f s q)) same
+      ∙ two h (listed 0 xss) (cursor_parts f s q)))
       (cursor_by (is_waiting s q) q z refl whole drawn full on done.1 done.0)

@@ -17,11 +17,11 @@ use Rattle.esc_terminal.specs.Laws.{GoesOn, IsAlwaysSound}
 use Rattle.esc_terminal.specs.Looks.{erased_look}
 use Rattle.esc_terminal.specs.Streams.{first_shown, shown_after, shown_of, values_of}
 use Rattle.esc_paint.specs.declared.pen.Pen.{Pen}
-use Rattle.esc_paint.specs.Pieces.{piece_step}
-use Rattle.esc_paint.specs.Painting.{first_pen, paint_pieces, painting_text, pen_by}
+use Rattle.esc_paint.specs.Parts.{part_step}
+use Rattle.esc_paint.specs.Painting.{first_pen, paint_parts, painting_text, pen_by}
 use Rattle.esc_paint.specs.Laws.{Paints, PaintsNew, PaintsOver, ShowsSame, contents_of}
 use Rattle.esc_paint.proofs.Painted.{painted_cell, painted_cells}
-use Rattle.esc_paint.proofs.Pieces.{all_read, all_shown, readings, text_is}
+use Rattle.esc_paint.proofs.Parts.{all_read, all_shown, readings, text_is}
 use Rattle.esc_paint.proofs.Plain.{paint_fits}
 use Rattle.esc_paint.proofs.Screens.{painted_row, paints}
 use Rattle.esc_paint.proofs.Texts.{all_values, texts_mean}
@@ -66,13 +66,13 @@ all_contents f s (xs ∷ xss) =
 
 pub paints_any : (A : Type 0) → MeansItsSegments A → Paints A
 paints_any A means = λ f s t g old h.
-    let ps = paint_pieces f s g in
+    let ps = paint_parts f s g in
     let fits = paint_fits f s g h.sound.rows h.sound.cursor h.size.0 h.size.1 h.drawn h.plain in
     let meant : values_of A (painting_text f s g) ≡ all_values (readings {A = A} ps) =
     ap (meaning_within {A = A} (Some 0x1000)) (sym (text_is A ps))
     ∙ texts_mean {A = A} means (Some 0x1000) (readings ps) (all_read A ps fits) in
     let shown = ap (shown_after {A = A} s t) meant ∙ all_shown A s t ps number fits in
-    let z = grid_from s t.grid (map (piece_step number) ps) in
+    let z = grid_from s t.grid (map (part_step number) ps) in
     let is : (shown_after s t (values_of A (painting_text f s g))).grid
         ≡ z = ap (λ x. x.grid) shown in
     let e = paints number same f s refl t.grid g old.rows h.whole h.drawn h.sound.rows

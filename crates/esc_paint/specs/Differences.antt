@@ -11,8 +11,8 @@ use Rattle.esc_screen.specs.declared.content.Content.TheVariants as content
 use Rattle.esc_screen.specs.declared.marks.Marks.{Marks}
 use Rattle.esc_terminal.specs.Looks.{erased_look}
 use Rattle.esc_paint.specs.declared.pen.Pen.{Pen}
-use Rattle.esc_paint.specs.Pieces.{Piece, erase_right, pieces_text, place, soft_reset}
-use Rattle.esc_paint.specs.Painting.{cells_pieces, cursor_pieces, first_pen, is_blank_content, is_waiting, painting_text}
+use Rattle.esc_paint.specs.Parts.{Part, erase_right, parts_text, place, soft_reset}
+use Rattle.esc_paint.specs.Painting.{cells_parts, cursor_parts, first_pen, is_blank_content, is_waiting, painting_text}
 
 -- ---- cells
 
@@ -67,17 +67,17 @@ abbrev pub here_pen : Pen
 here_pen = record first_pen { here = true }
 
 -- the cells of a row from a column on, whatever is there
-abbrev pub rest_pieces : (ℕ → Look) → ℕ → ℕ → List Cell → List Piece
-rest_pieces f r n xs = place r n ∷ erase_right ∷ cells_pieces f r n here_pen (drop n xs)
+abbrev pub rest_parts : (ℕ → Look) → ℕ → ℕ → List Cell → List Part
+rest_parts f r n xs = place r n ∷ erase_right ∷ cells_parts f r n here_pen (drop n xs)
 
 -- a row where another one is, from the first cell on that is not the same
-abbrev pub row_changes : (ℕ → Look) → (ℕ → Look) → ℕ → List Cell → List Cell → List Piece
-row_changes f k r xs ys = if is_other f k xs ys then rest_pieces k r (same_cells f k xs ys) ys
+abbrev pub row_changes : (ℕ → Look) → (ℕ → Look) → ℕ → List Cell → List Cell → List Part
+row_changes f k r xs ys = if is_other f k xs ys then rest_parts k r (same_cells f k xs ys) ys
     else []
 
 -- so many rows from this one on
 abbrev pub rows_changes : (ℕ → Look) → (ℕ → Look) → List (List Cell) → List (List Cell) → ℕ → ℕ
-    → List Piece
+    → List Part
 rows_changes f k xss yss r zero = []
 rows_changes f k xss yss r (suc n) = row_changes f k r (get_or xss r []) (get_or yss r [])
     ++ rows_changes f k xss yss (r + 1) n
@@ -101,9 +101,9 @@ abbrev pub same_screen : (ℕ → Look) → (ℕ → Look) → Size → Size →
 same_screen f k q s g h = same_cursor q s g h && same_rows f k g.rows h.rows 0 s.rows
 
 -- nothing, if they are the same
-abbrev pub change_pieces : (ℕ → Look) → (ℕ → Look) → Size → Size → Grid → Grid → List Piece
-change_pieces f k q s g h = if same_screen f k q s g h then []
-    else soft_reset ∷ (rows_changes f k g.rows h.rows 0 s.rows ++ cursor_pieces k s h)
+abbrev pub change_parts : (ℕ → Look) → (ℕ → Look) → Size → Size → Grid → Grid → List Part
+change_parts f k q s g h = if same_screen f k q s g h then []
+    else soft_reset ∷ (rows_changes f k g.rows h.rows 0 s.rows ++ cursor_parts k s h)
 
 abbrev pub same_size : Size → Size → Bool
 same_size q s = q.rows == s.rows && q.columns == s.columns
@@ -111,7 +111,7 @@ same_size q s = q.rows == s.rows && q.columns == s.columns
 -- The text that leads a terminal which shows a grid of one size to another grid, if the numbers of
 -- their cells stand for these looks: if the other one has another size, the whole is painted.
 abbrev pub difference : (ℕ → Look) → (ℕ → Look) → Size → Size → Grid → Grid → List ℕ
-difference f k q s g h = if same_size q s then pieces_text (change_pieces f k q s g h)
+difference f k q s g h = if same_size q s then parts_text (change_parts f k q s g h)
     else painting_text k s h
 
 -- ---- screens, one after another

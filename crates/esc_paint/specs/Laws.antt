@@ -90,7 +90,7 @@ LeadsOver A = (f k : ℕ → Look) (s : Size) (b : List ℕ) (g h : Grid) → Is
 abbrev pub SaysNothing : Type 0
 SaysNothing = (f : ℕ → Look) (s : Size) (g : Grid) → difference f f s s g g ≡ []
 
--- a difference, and so a painting, has at most 14 bytes for each of five pieces of a cell, two of a
+-- a difference, and so a painting, has at most 14 bytes for each of five parts of a cell, two of a
 -- row, and as many for the row of the cursor
 abbrev pub IsBounded : Type 0
 IsBounded = (f k : ℕ → Look) (q s : Size) (g h : Grid) → IsPaintable k s h

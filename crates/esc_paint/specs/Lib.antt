@@ -1,4 +1,4 @@
-pub mod Pieces
+pub mod Parts
 pub mod Painting
 pub mod Drawn
 pub mod Differences

@@ -11,7 +11,7 @@ use Rattle.esc_screen.specs.declared.content.Content.TheVariants as content
 use Rattle.esc_screen.specs.declared.marks.Marks.{Marks}
 use Rattle.esc_terminal.specs.Looks.{erased_look}
 use Rattle.esc_paint.specs.declared.pen.Pen.{Pen}
-use Rattle.esc_paint.specs.Pieces.{Piece, character, erase_all, erase_right, look, pieces_text, place, soft_reset}
+use Rattle.esc_paint.specs.Parts.{Part, character, erase_all, erase_right, look, parts_text, place, soft_reset}
 
 -- at the beginning of a row
 abbrev pub first_pen : Pen
@@ -24,33 +24,33 @@ first_pen = record {
 -- ---- cells
 
 -- the cursor goes to a row and a column, if it is not there
-abbrev pub place_change : Bool → ℕ → ℕ → List Piece
+abbrev pub place_change : Bool → ℕ → ℕ → List Part
 place_change here r n = if here then [] else place r n ∷ []
 
 -- the look of characters that come becomes another
-abbrev pub look_change : Look → Look → List Piece
+abbrev pub look_change : Look → Look → List Part
 look_change a b = if same_look a b then [] else look b ∷ []
 
-abbrev pub mark_pieces : Option ℕ → List Piece
-mark_pieces None = []
-mark_pieces (Some c) = character c ∷ []
+abbrev pub mark_parts : Option ℕ → List Part
+mark_parts None = []
+mark_parts (Some c) = character c ∷ []
 
 -- if there are three marks or more, two are known: the first stands for the others
-abbrev pub marks_pieces : Marks → List Piece
-marks_pieces m = mark_pieces m.first
-    ++ (mark_pieces m.second ++ (if m.others then mark_pieces m.first else []))
+abbrev pub marks_parts : Marks → List Part
+marks_parts m = mark_parts m.first
+    ++ (mark_parts m.second ++ (if m.others then mark_parts m.first else []))
 
 -- a character in a row and a column, with its marks and its look
-abbrev pub drawn_pieces : ℕ → ℕ → Pen → ℕ → Marks → Look → List Piece
-drawn_pieces r n p c m l =
-    place_change p.here r n ++ (look_change p.look l ++ (character c ∷ marks_pieces m))
+abbrev pub drawn_parts : ℕ → ℕ → Pen → ℕ → Marks → Look → List Part
+drawn_parts r n p c m l =
+    place_change p.here r n ++ (look_change p.look l ++ (character c ∷ marks_parts m))
 
 abbrev pub pen_drawn : Look → Pen → Pen
 pen_drawn l p = record p { here = true; look = l }
 
 -- a blank cell: the rest of the row is erased, if it looks otherwise
-abbrev pub blank_pieces : ℕ → ℕ → Pen → Look → List Piece
-blank_pieces r n p b = if same_look p.back b then []
+abbrev pub blank_parts : ℕ → ℕ → Pen → Look → List Part
+blank_parts r n p b = if same_look p.back b then []
     else place_change p.here r n ++ (look_change p.look b ++ (erase_right ∷ []))
 
 abbrev pub pen_blank : Look → Pen → Pen
@@ -62,11 +62,11 @@ pen_blank b p = if same_look p.back b then record p { here = false }
     }
 
 -- the content of a cell; the second column of a character came with the first
-abbrev pub content_pieces : ℕ → ℕ → Pen → Look → Content → List Piece
-content_pieces r n p l content.Blank = blank_pieces r n p (erased_look l)
-content_pieces r n p l (content.Narrow c m) = drawn_pieces r n p c m l
-content_pieces r n p l (content.Wide c m) = drawn_pieces r n p c m l
-content_pieces r n p l content.Rest = []
+abbrev pub content_parts : ℕ → ℕ → Pen → Look → Content → List Part
+content_parts r n p l content.Blank = blank_parts r n p (erased_look l)
+content_parts r n p l (content.Narrow c m) = drawn_parts r n p c m l
+content_parts r n p l (content.Wide c m) = drawn_parts r n p c m l
+content_parts r n p l content.Rest = []
 
 abbrev pub pen_by : Pen → Look → Content → Pen
 pen_by p l content.Blank = pen_blank (erased_look l) p
@@ -77,23 +77,23 @@ pen_by p l content.Rest = p
 -- ---- rows
 
 -- cells from a column on, each with the look of its number; then characters look plain
-abbrev pub cells_pieces : (ℕ → Look) → ℕ → ℕ → Pen → List Cell → List Piece
-cells_pieces f r n p [] = look_change p.look plain_look
-cells_pieces f r n p (x ∷ xs) = content_pieces r n p (f x.look) x.content
-    ++ cells_pieces f r (n + 1) (pen_by p (f x.look) x.content) xs
+abbrev pub cells_parts : (ℕ → Look) → ℕ → ℕ → Pen → List Cell → List Part
+cells_parts f r n p [] = look_change p.look plain_look
+cells_parts f r n p (x ∷ xs) = content_parts r n p (f x.look) x.content
+    ++ cells_parts f r (n + 1) (pen_by p (f x.look) x.content) xs
 
 -- in a row that is blank
-abbrev pub row_pieces : (ℕ → Look) → ℕ → List Cell → List Piece
-row_pieces f r xs = cells_pieces f r 0 first_pen xs
+abbrev pub row_parts : (ℕ → Look) → ℕ → List Cell → List Part
+row_parts f r xs = cells_parts f r 0 first_pen xs
 
 -- so many rows from this one on
-abbrev pub rows_pieces : (ℕ → Look) → List (List Cell) → ℕ → ℕ → List Piece
-rows_pieces f xss r zero = []
-rows_pieces f xss r (suc n) = row_pieces f r (get_or xss r []) ++ rows_pieces f xss (r + 1) n
+abbrev pub rows_parts : (ℕ → Look) → List (List Cell) → ℕ → ℕ → List Part
+rows_parts f xss r zero = []
+rows_parts f xss r (suc n) = row_parts f r (get_or xss r []) ++ rows_parts f xss (r + 1) n
 
 -- a row, whatever is there
-abbrev pub row_again : (ℕ → Look) → ℕ → List Cell → List Piece
-row_again f r xs = place r 0 ∷ erase_right ∷ row_pieces f r xs
+abbrev pub row_again : (ℕ → Look) → ℕ → List Cell → List Part
+row_again f r xs = place r 0 ∷ erase_right ∷ row_parts f r xs
 
 -- ---- the cursor
 
@@ -111,16 +111,16 @@ is_waiting s g = g.cursor.pending && (g.cursor.column + 1 == s.columns)
     && ends_drawn (row_of_cursor g)
 
 -- the cursor goes to its place; if a wrap is pending, the row is painted again
-abbrev pub cursor_pieces : (ℕ → Look) → Size → Grid → List Piece
-cursor_pieces f s g = if is_waiting s g then row_again f g.cursor.row (row_of_cursor g)
+abbrev pub cursor_parts : (ℕ → Look) → Size → Grid → List Part
+cursor_parts f s g = if is_waiting s g then row_again f g.cursor.row (row_of_cursor g)
     else place g.cursor.row g.cursor.column ∷ []
 
 -- ---- a screen
 
-abbrev pub paint_pieces : (ℕ → Look) → Size → Grid → List Piece
-paint_pieces f s g =
-    soft_reset ∷ erase_all ∷ (rows_pieces f g.rows 0 s.rows ++ cursor_pieces f s g)
+abbrev pub paint_parts : (ℕ → Look) → Size → Grid → List Part
+paint_parts f s g =
+    soft_reset ∷ erase_all ∷ (rows_parts f g.rows 0 s.rows ++ cursor_parts f s g)
 
 -- the text that paints a grid of this size, if the numbers of cells stand for these looks
 abbrev pub painting_text : (ℕ → Look) → Size → Grid → List ℕ
-painting_text f s g = pieces_text (paint_pieces f s g)
+painting_text f s g = parts_text (paint_parts f s g)

@@ -1,7 +1,7 @@
 //! Cells, and rows of them.
 ghost use Rattle.std.specs.Prelude.{◌≡◌, ◌++◌, ◌<◌, ◌^◌, OnErr, OnOk, drop, string_bytes};
-ghost use Rattle.esc_paint.specs.Painting.{blank_pieces, cells_pieces, content_pieces, drawn_pieces, is_blank_content, pen_blank, pen_by, row_pieces};
-ghost use Rattle.esc_paint.specs.Pieces.{pieces_text};
+ghost use Rattle.esc_paint.specs.Painting.{blank_parts, cells_parts, content_parts, drawn_parts, is_blank_content, pen_blank, pen_by, row_parts};
+ghost use Rattle.esc_paint.specs.Parts.{parts_text};
 ghost use Rattle.esc_terminal.specs.Links.{known_look, known_of};
 ghost use Rattle.esc_terminal.specs.Looks.{erased_look};
 ghost use Rattle.fallible_alloc.specs.Refusals.{Refused};
@@ -49,7 +49,7 @@ fn push_drawn<A: Allocator>(
 ) -> Result<(), AllocError>
     requires { column < 2 ^ 63 }
     ensures ok { OnOk result (string_bytes text.new ≡ string_bytes text.old
-        ++ pieces_text (drawn_pieces row column pen.now character marks look.now)) }
+        ++ parts_text (drawn_parts row column pen.now character marks look.now)) }
     ensures refused { OnErr result (Refused A) }
 {
     push_placed(text, pen.here, row, column)?;
@@ -69,7 +69,7 @@ fn push_blank<A: Allocator>(
 ) -> Result<(), AllocError>
     requires { column < 2 ^ 63 }
     ensures ok { OnOk result (string_bytes text.new ≡ string_bytes text.old
-        ++ pieces_text (blank_pieces row column pen.now look.now)) }
+        ++ parts_text (blank_parts row column pen.now look.now)) }
     ensures refused { OnErr result (Refused A) }
 {
     if is_same(&pen.back, look) {
@@ -91,7 +91,7 @@ fn push_content<A: Allocator>(
 ) -> Result<(), AllocError>
     requires { column < 2 ^ 63 }
     ensures ok { OnOk result (string_bytes text.new ≡ string_bytes text.old
-        ++ pieces_text (content_pieces row column pen.now look.now content)) }
+        ++ parts_text (content_parts row column pen.now look.now content)) }
     ensures refused { OnErr result (Refused A) }
 {
     match content {
@@ -157,7 +157,7 @@ pub(crate) fn push_row<A: Allocator, B: Allocator>(
     styles: &Styles<B>,
 ) -> Result<(), AllocError>
     ensures ok { OnOk result (string_bytes text.new ≡ string_bytes text.old
-        ++ pieces_text (row_pieces (λ n. known_look n (known_of styles.now)) row cells.now)) }
+        ++ parts_text (row_parts (λ n. known_look n (known_of styles.now)) row cells.now)) }
     ensures refused { OnErr result (Refused A) }
 {
     push_cells(text, Pen::first(), row, 0, cells, styles)
@@ -173,7 +173,7 @@ pub(crate) fn push_cells<A: Allocator, B: Allocator>(
     styles: &Styles<B>,
 ) -> Result<(), AllocError>
     ensures ok { OnOk result (string_bytes text.new ≡ string_bytes text.old
-        ++ pieces_text (cells_pieces (λ n. known_look n (known_of styles.now)) row first pen
+        ++ parts_text (cells_parts (λ n. known_look n (known_of styles.now)) row first pen
         (drop first cells.now))) }
     ensures refused { OnErr result (Refused A) }
 {

@@ -1,7 +1,7 @@
 //! The text that leads from one screen to another.
 ghost use Rattle.std.specs.Prelude.{◌≡◌, ◌++◌, OnErr, OnOk, string_bytes};
-ghost use Rattle.esc_paint.specs.Differences.{change_pieces, difference, row_changes, rows_changes, same_cursor, same_rows, same_screen, same_size};
-ghost use Rattle.esc_paint.specs.Pieces.{pieces_text};
+ghost use Rattle.esc_paint.specs.Differences.{change_parts, difference, row_changes, rows_changes, same_cursor, same_rows, same_screen, same_size};
+ghost use Rattle.esc_paint.specs.Parts.{parts_text};
 ghost use Rattle.esc_screen.specs.Grids.{row_of_cursor};
 ghost use Rattle.esc_screen.specs.Screens.{grid_of, size_of};
 ghost use Rattle.esc_terminal.specs.Links.{known_look, known_of};
@@ -113,7 +113,7 @@ fn push_changes<A: Allocator, B: Allocator, C: Allocator>(
     to_styles: &Styles<C>,
 ) -> Result<(), AllocError>
     ensures ok { OnOk result (string_bytes text.new ≡ string_bytes text.old
-        ++ pieces_text (rows_changes (λ n. known_look n (known_of from_styles.now))
+        ++ parts_text (rows_changes (λ n. known_look n (known_of from_styles.now))
         (λ n. known_look n (known_of to_styles.now)) (grid_of from.now).rows
         (grid_of to.now).rows 0 (size_of to.now).rows)) }
     ensures refused { OnErr result (Refused A) }
@@ -136,7 +136,7 @@ fn push_change<A: Allocator, B: Allocator, C: Allocator>(
     to_styles: &Styles<C>,
 ) -> Result<(), AllocError>
     ensures ok { OnOk result (string_bytes text.new ≡ string_bytes text.old
-        ++ pieces_text (row_changes (λ n. known_look n (known_of from_styles.now))
+        ++ parts_text (row_changes (λ n. known_look n (known_of from_styles.now))
         (λ n. known_look n (known_of to_styles.now)) row from.now to.now)) }
     ensures refused { OnErr result (Refused A) }
 {

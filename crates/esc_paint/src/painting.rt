@@ -1,8 +1,8 @@
 //! The text that paints a screen.
 ghost use Rattle.std.specs.Prelude.{◌≡◌, ◌++◌, OnErr, OnOk, string_bytes};
-ghost use Rattle.esc_paint.specs.Painting.{cursor_pieces, ends_drawn, is_waiting, painting_text, rows_pieces};
+ghost use Rattle.esc_paint.specs.Painting.{cursor_parts, ends_drawn, is_waiting, painting_text, rows_parts};
 ghost use Rattle.esc_screen.specs.Grids.{row_of_cursor};
-ghost use Rattle.esc_paint.specs.Pieces.{pieces_text};
+ghost use Rattle.esc_paint.specs.Parts.{parts_text};
 ghost use Rattle.esc_screen.specs.Screens.{grid_of, size_of};
 ghost use Rattle.esc_terminal.specs.Links.{known_look, known_of};
 ghost use Rattle.fallible_alloc.specs.Refusals.{Refused};
@@ -46,7 +46,7 @@ fn push_rows<A: Allocator, B: Allocator>(
     styles: &Styles<B>,
 ) -> Result<(), AllocError>
     ensures ok { OnOk result (string_bytes text.new ≡ string_bytes text.old
-        ++ pieces_text (rows_pieces (λ n. known_look n (known_of styles.now))
+        ++ parts_text (rows_parts (λ n. known_look n (known_of styles.now))
         (grid_of screen.now).rows 0 (size_of screen.now).rows)) }
     ensures refused { OnErr result (Refused A) }
 {
@@ -64,7 +64,7 @@ pub(crate) fn push_cursor<A: Allocator, B: Allocator>(
     styles: &Styles<B>,
 ) -> Result<(), AllocError>
     ensures ok { OnOk result (string_bytes text.new ≡ string_bytes text.old
-        ++ pieces_text (cursor_pieces (λ n. known_look n (known_of styles.now))
+        ++ parts_text (cursor_parts (λ n. known_look n (known_of styles.now))
         (size_of screen.now) (grid_of screen.now))) }
     ensures refused { OnErr result (Refused A) }
 {

@@ -1,8 +1,8 @@
 //! The sequences and characters that paint.
 ghost use Rattle.std.specs.Prelude.{◌≡◌, ◌++◌, ◌<◌, ◌^◌, OnErr, OnOk, string_bytes};
-ghost use Rattle.esc_paint.specs.Painting.{look_change, mark_pieces, marks_pieces, place_change};
-ghost use Rattle.esc_paint.specs.Pieces.{piece_text, pieces_text};
-ghost use Rattle.esc_paint.specs.Pieces.Piece.{place};
+ghost use Rattle.esc_paint.specs.Painting.{look_change, mark_parts, marks_parts, place_change};
+ghost use Rattle.esc_paint.specs.Parts.{part_text, parts_text};
+ghost use Rattle.esc_paint.specs.Parts.Part.{place};
 ghost use Rattle.fallible_alloc.specs.Refusals.{Refused};
 
 use esc_screen::Marks;
@@ -18,7 +18,7 @@ pub(crate) fn push_place<A: Allocator>(
 ) -> Result<(), AllocError>
     requires { column < 2 ^ 63 }
     ensures ok { OnOk result (string_bytes text.new
-        ≡ string_bytes text.old ++ piece_text (place row column)) }
+        ≡ string_bytes text.old ++ part_text (place row column)) }
     ensures refused { OnErr result (Refused A) }
 {
     let row = row as u64 + 1;
@@ -31,7 +31,7 @@ pub(crate) fn push_place<A: Allocator>(
 }
 
 /// Appends the same if the cursor is not there.
-#[tactic(auto, using(crate::proofs::Writing::one_piece))]
+#[tactic(auto, using(crate::proofs::Writing::one_part))]
 pub(crate) fn push_placed<A: Allocator>(
     text: &mut String<A>,
     here: bool,
@@ -40,7 +40,7 @@ pub(crate) fn push_placed<A: Allocator>(
 ) -> Result<(), AllocError>
     requires { column < 2 ^ 63 }
     ensures ok { OnOk result (string_bytes text.new
-        ≡ string_bytes text.old ++ pieces_text (place_change here row column)) }
+        ≡ string_bytes text.old ++ parts_text (place_change here row column)) }
     ensures refused { OnErr result (Refused A) }
 {
     if here {
@@ -58,7 +58,7 @@ pub(crate) fn push_looked<A: Allocator>(
     to: &Look,
 ) -> Result<(), AllocError>
     ensures ok { OnOk result (string_bytes text.new
-        ≡ string_bytes text.old ++ pieces_text (look_change from.now to.now)) }
+        ≡ string_bytes text.old ++ parts_text (look_change from.now to.now)) }
     ensures refused { OnErr result (Refused A) }
 {
     esc_sgr::push_change(text, from, to)
@@ -68,7 +68,7 @@ pub(crate) fn push_looked<A: Allocator>(
 #[tactic(auto, using(crate::proofs::Writing::mark_is))]
 fn push_mark<A: Allocator>(text: &mut String<A>, mark: Option<char>) -> Result<(), AllocError>
     ensures ok { OnOk result (string_bytes text.new
-        ≡ string_bytes text.old ++ pieces_text (mark_pieces mark)) }
+        ≡ string_bytes text.old ++ parts_text (mark_parts mark)) }
     ensures refused { OnErr result (Refused A) }
 {
     match mark {
@@ -82,7 +82,7 @@ fn push_mark<A: Allocator>(text: &mut String<A>, mark: Option<char>) -> Result<(
 #[tactic(auto, using(crate::proofs::Writing::marks_text))]
 pub(crate) fn push_marks<A: Allocator>(text: &mut String<A>, marks: Marks) -> Result<(), AllocError>
     ensures ok { OnOk result (string_bytes text.new
-        ≡ string_bytes text.old ++ pieces_text (marks_pieces marks)) }
+        ≡ string_bytes text.old ++ parts_text (marks_parts marks)) }
     ensures refused { OnErr result (Refused A) }
 {
     push_mark(text, marks.first)?;

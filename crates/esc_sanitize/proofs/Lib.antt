@@ -3,5 +3,5 @@ mod Beginning
 mod Following
 mod Running
 mod Auditing
-mod OfPieces
+mod OfParts
 mod Ending

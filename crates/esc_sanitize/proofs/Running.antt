@@ -78,7 +78,7 @@ finishes {A = A} G V W o s k j n x count is lost same old decodes heard more add
           ∙ ap (λ d. going_of V o s ++ left_added n (G.added d.filter)) (sym decodes),
     )
 
--- ---- as what takes a stream in pieces
+-- ---- as what takes a stream in chunks
 
 -- the text that it gives by its options
 pub runs_by : {F P B A : Type 0} (G : Feeder F A) (V : Admitter P A) (W : Writer B A)

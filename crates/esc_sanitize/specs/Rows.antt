@@ -1,4 +1,4 @@
--- The rest of the lines of a text that comes in pieces.
+-- The rest of the lines of a text that comes in chunks.
 use Rattle.std.specs.Prelude.{ℕ, ◌≡◌, List, [], Option, Some, None, string_bytes}
 use Rattle.line_collapse.specs.Fed.{HasConsumed, added_by}
 use Rattle.line_collapse.specs.Windows.{Size}

@@ -38,7 +38,7 @@ abbrev pub HasFinished : {F P B A : Type 0} → Admitter P A → Writer B A → 
 HasFinished V W k s =
     HasHeard V W k.hearing s × HasNoted (lost_of_stream V (options_of k) s) (auditor_of k)
 
--- ---- as what takes a stream in pieces
+-- ---- as what takes a stream in chunks
 
 -- it was fed this stream, and gives these texts, by its options
 abbrev pub Gives : {F P B A : Type 0} → Feeder F A → Admitter P A → Writer B A → Staged F P B A

@@ -1,4 +1,4 @@
--- Sheets that grow by a piece.
+-- Sheets that grow by a part.
 use Rattle.std.proofs.Common.{ℕ, ◌≡◌, Bool, true, false, ◌||◌, if◌then◌else◌, List, [], ◌∷◌, ◌++◌, refl, ap, sym, subst, ◌∙◌, append-nil}
 use Rattle.std.specs.Prelude.{Result, Ok, Err, Option, Some, None, OnErr, OnOk, ◌==◌}
 use Rattle.std.specs.Fmt.{decimal}
@@ -9,26 +9,26 @@ use Rattle.esc_style.specs.declared.look.Look.{Look}
 use Rattle.esc_sgr.specs.Sgr.{change_text, look_text, same_look}
 use Rattle.unicode_visibility.specs.Characters.{is_among, is_shown}
 use Rattle.unicode_visibility.specs.Following.{belongs, joins_emoji, joins_letters}
-use Rattle.esc_sheet.specs.Sheets.{IsSheet, Piece, is_character, is_fit, is_joiner, lead_text, piece_text}
-use Rattle.esc_sheet.specs.Sheets.Piece.{Change, Lead, Number}
+use Rattle.esc_sheet.specs.Sheets.{IsSheet, Part, is_character, is_fit, is_joiner, lead_text, part_text}
+use Rattle.esc_sheet.specs.Sheets.Part.{Change, Lead, Number}
 
-sheet_piece : (s : List ℕ) (p : Piece) → is_fit p ≡ true → IsSheet s
-    → IsSheet (s ++ piece_text p)
-sheet_piece s p fit (ps, all, e) = (
+sheet_part : (s : List ℕ) (p : Part) → is_fit p ≡ true → IsSheet s
+    → IsSheet (s ++ part_text p)
+sheet_part s p fit (ps, all, e) = (
   ps ++ p ∷ [],
   rw (list_all-append is_fit ps (p ∷ []), all, fit) refl,
-  flat_map-append piece_text ps (p ∷ []) ∙ ap (λ t. t ++ (piece_text p ++ [])) e
-      ∙ ap (λ t. s ++ t) (append-nil (piece_text p)),
+  flat_map-append part_text ps (p ∷ []) ∙ ap (λ t. t ++ (part_text p ++ [])) e
+      ∙ ap (λ t. s ++ t) (append-nil (part_text p)),
 )
 
 pub no_sheet : ∥ IsSheet [] ∥₁
 no_sheet = ∣ ([], refl, refl) ∣₁
 
--- the text t after a push of a piece to the text s, that may be refused
-pub sheet_push : (b : Bool) (s t : List ℕ) (p : Piece) → is_fit p ≡ true → ∥ IsSheet s ∥₁
-    → t ≡ (if b then s ++ piece_text p else s) → ∥ IsSheet t ∥₁
+-- the text t after a push of a part to the text s, that may be refused
+pub sheet_push : (b : Bool) (s t : List ℕ) (p : Part) → is_fit p ≡ true → ∥ IsSheet s ∥₁
+    → t ≡ (if b then s ++ part_text p else s) → ∥ IsSheet t ∥₁
 sheet_push true s t p fit h e =
-    subst (λ x. ∥ IsSheet x ∥₁) (sym e) (∥∥₁_map h (sheet_piece s p fit))
+    subst (λ x. ∥ IsSheet x ∥₁) (sym e) (∥∥₁_map h (sheet_part s p fit))
 sheet_push false s t p fit h e = subst (λ x. ∥ IsSheet x ∥₁) (sym e) h
 
 sheet_cleared : (t : List ℕ) → t ≡ [] → ∥ IsSheet t ∥₁

@@ -35,32 +35,32 @@ id_text (Some i) = codes "id=" ++ i
 abbrev pub lead_text : Option (List ℕ) → List ℕ → List ℕ
 lead_text i a = 0x1b ∷ codes "]8;" ++ (id_text i ++ (0x3b ∷ a ++ 0x1b ∷ 0x5c ∷ []))
 
--- A piece of the text: a character, a number in decimal, the end of a line, what makes a look, or
+-- A part of the text: a character, a number in decimal, the end of a line, what makes a look, or
 -- what begins a link or ends one.
-pub data Piece : Type 0 where
-  Character : ℕ → Piece
-  Number : ℕ → Piece
-  LineEnd : Piece
-  Change : Look → Piece
-  Lead : Option (List ℕ) → List ℕ → Piece
+pub data Part : Type 0 where
+  Character : ℕ → Part
+  Number : ℕ → Part
+  LineEnd : Part
+  Change : Look → Part
+  Lead : Option (List ℕ) → List ℕ → Part
 
-abbrev pub piece_text : Piece → List ℕ
-piece_text (Character c) = encode_utf8 c
-piece_text (Number n) = decimal n
-piece_text LineEnd = 0x0a ∷ []
-piece_text (Change l) = look_text l
-piece_text (Lead i a) = lead_text i a
+abbrev pub part_text : Part → List ℕ
+part_text (Character c) = encode_utf8 c
+part_text (Number n) = decimal n
+part_text LineEnd = 0x0a ∷ []
+part_text (Change l) = look_text l
+part_text (Lead i a) = lead_text i a
 
-abbrev pub is_fit : Piece → Bool
+abbrev pub is_fit : Part → Bool
 is_fit (Character c) = is_character c
 is_fit (Number n) = true
 is_fit LineEnd = true
 is_fit (Change l) = true
 is_fit (Lead i a) = is_id i && list_all is_address_char a
 
--- a text that is made of such pieces
+-- a text that is made of such parts
 abbrev pub IsSheet : List ℕ → Type 0
-IsSheet t = (ps : List Piece) × (list_all is_fit ps ≡ true) × (flat_map piece_text ps ≡ t)
+IsSheet t = (ps : List Part) × (list_all is_fit ps ≡ true) × (flat_map part_text ps ≡ t)
 
 -- known bytes grow by such a text
 pub record AppendsSheet (old new : Option (List ℕ)) : Type 0 where

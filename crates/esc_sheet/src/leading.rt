@@ -3,7 +3,7 @@ ghost use Rattle.std.specs.Prelude.{◌≡◌, ◌++◌, [], OnErr, OnOk, string
 ghost use Rattle.std.specs.List.{list_all};
 ghost use Rattle.std.specs.Option.{option_map};
 ghost use Rattle.esc_sheet.specs.Sheets.{id_text, is_address_char, is_fit, is_id, lead_text};
-ghost use Rattle.esc_sheet.specs.Sheets.Piece.{Lead};
+ghost use Rattle.esc_sheet.specs.Sheets.Part.{Lead};
 
 use fallible_alloc::push_str;
 use std::alloc::AllocError;

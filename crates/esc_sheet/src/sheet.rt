@@ -5,7 +5,7 @@ ghost use Rattle.std.specs.Prelude.{◌≡◌, ◌++◌, [], IsTrue, OnErr, OnOk
 ghost use Rattle.std.specs.Fmt.{decimal};
 ghost use Rattle.esc_sgr.specs.Sgr.{change_text};
 ghost use Rattle.esc_sheet.specs.Sheets.{IsSheet, is_character, is_fit, lead_text};
-ghost use Rattle.esc_sheet.specs.Sheets.Piece.{Lead};
+ghost use Rattle.esc_sheet.specs.Sheets.Part.{Lead};
 
 use crate::leading::{append_lead, is_writable};
 use esc_links::Hyperlink;

@@ -146,7 +146,7 @@ impl<'n> Dump<'n> {
         for _ in 0..u64::MAX {
             let (shown, after) = rest.split_at(shown_run(rest));
             if !shown.is_empty() {
-                self.take_piece(SegmentKind::Character, shown);
+                self.take_part(SegmentKind::Character, shown);
             }
             match after {
                 [end @ (b'\n' | b'\r'), more @ ..] if !self.options.is_input => {
@@ -185,7 +185,7 @@ impl<'n> Dump<'n> {
                 }
                 Address::Whole => {
                     let (first, after) = rest.split_at(rest.len().min(4));
-                    self.add_piece(SegmentKind::Escape, first);
+                    self.add_part(SegmentKind::Escape, first);
                     self.end_line(true);
                     rest = self.take_shown(after);
                 }
@@ -247,7 +247,7 @@ impl<'n> Dump<'n> {
         }
         let (taken, held) = fresh.split_at(fresh.len().saturating_sub(self.held_of(segment)));
         if !taken.is_empty() {
-            self.take_piece(segment.kind, taken);
+            self.take_part(segment.kind, taken);
         }
         self.unfinished = segment.kind;
         self.begun.clear();
@@ -283,7 +283,7 @@ impl<'n> Dump<'n> {
         let begun = mem::replace(&mut self.begun, Vec::new(self.alloc));
         let rest = &begun[self.known.min(begun.len())..];
         if !rest.is_empty() {
-            self.take_piece(self.unfinished, rest);
+            self.take_part(self.unfinished, rest);
         }
         self.end_text();
         self.end_string();
@@ -307,8 +307,8 @@ impl<'n> Dump<'n> {
     }
 
     // Takes some bytes of a segment, with others to follow.
-    fn take_piece(&mut self, kind: SegmentKind, bytes: &[u8]) {
-        self.add_piece(kind, bytes);
+    fn take_part(&mut self, kind: SegmentKind, bytes: &[u8]) {
+        self.add_part(kind, bytes);
         self.is_framed = is_framed(kind);
         if self.is_framed {
             self.feed(bytes);
@@ -316,7 +316,7 @@ impl<'n> Dump<'n> {
     }
 
     // Adds some bytes of a segment, after the items before it.
-    fn add_piece(&mut self, kind: SegmentKind, bytes: &[u8]) {
+    fn add_part(&mut self, kind: SegmentKind, bytes: &[u8]) {
         self.end_string();
         if kind != SegmentKind::Character {
             self.end_text();
@@ -333,7 +333,7 @@ impl<'n> Dump<'n> {
             self.page.note(!self.item.close(bytes));
             return self.end_string();
         }
-        self.add_piece(kind, bytes);
+        self.add_part(kind, bytes);
         if self.is_framed || may_hold_controls(kind, &self.item) {
             self.feed(bytes);
             self.end_frame(kind);

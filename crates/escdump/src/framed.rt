@@ -3,7 +3,7 @@
 use crate::item::Item;
 use esc_segments::SegmentKind;
 
-/// Returns whether a segment that comes in pieces is given to the framer: it is a control sequence,
+/// Returns whether a segment that comes in chunks is given to the framer: it is a control sequence,
 /// or one in which controls may be. Others leave the framer as it was.
 pub fn is_framed(kind: SegmentKind) -> bool {
     match kind {

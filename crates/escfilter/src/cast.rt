@@ -15,7 +15,7 @@ use std::str;
 // A line has at most this many times the bytes of the limit.
 const TIMES: usize = 16;
 
-/// A filter of a recording of asciinema, which comes in pieces.
+/// A filter of a recording of asciinema, which comes in chunks.
 #[derive(Drop)]
 pub struct Lines<'a> {
     recording: asciicast::Recording<TextFilter<'a>>,

@@ -26,7 +26,7 @@ struct Head {
     length: u32,
 }
 
-/// A filter of a recording of ttyrec, which comes in pieces. The output of each piece of a frame is
+/// A filter of a recording of ttyrec, which comes in chunks. The output of each part of a frame is
 /// a frame with the same time, unless it is empty: so a frame may become several.
 #[derive(Drop)]
 pub struct Frames<'a> {

@@ -14,7 +14,7 @@ use std::io::{Read, Write};
 /// The filter of the stream of a recording.
 pub type TextFilter<'a> = Sanitizing<Choice<'a>, Rows<'a>>;
 
-/// A filter of a recording in one format, which comes in pieces.
+/// A filter of a recording in one format, which comes in chunks.
 pub trait Recording {
     /// Takes more bytes, and writes their output.
     fn take<W: Write>(&mut self, bytes: &[u8], writer: &mut Watched<W>) -> Result<(), Fault>;

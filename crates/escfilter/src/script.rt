@@ -20,7 +20,7 @@ const SECOND: u64 = 1_000_000;
 // The first line of a typescript is kept up to this many bytes.
 const MOST: usize = 4096;
 
-/// A filter of a typescript of script(1), which comes in pieces, by its timing. It makes a new
+/// A filter of a typescript of script(1), which comes in chunks, by its timing. It makes a new
 /// typescript and a new timing in the form of the old one. The first line stays if it is text. The
 /// words that the user typed are left out, and so are the bytes that the timing does not count.
 #[derive(Drop)]

@@ -24,8 +24,8 @@ use Rattle.esc_html.specs.declared.layout.Layout.{Layout}
 use Rattle.esc_normal.specs.Io.{Borrowed}
 use Rattle.esc_normal.specs.Streams.{Filters, HasFiltered}
 use Rattle.esc_normal.specs.declared.filter_error.FilterError.{FilterError}
-use Rattle.caret_notation.specs.Pieces.{is_piece, pieces_after, rest_after}
-use Rattle.caret_notation.specs.Revealed.{is_kept, piece_text, revealed_whole_as}
+use Rattle.caret_notation.specs.Spans.{is_span, spans_after, rest_after}
+use Rattle.caret_notation.specs.Revealed.{is_kept, span_text, revealed_whole_as}
 use Rattle.caret_notation.specs.Visible.{begun_after, closing, opening, character_text, first_begun, first_text, hex_byte, next_begun, next_text, settled_text, shown_text, single_text, stray_text, visible_text}
 use Rattle.caret_notation.specs.declared.marking.Marking.TheVariants.{Reversed}
 use Rattle.unicode_visibility.specs.Characters.{digit_at, four_digits, is_shown, leading, number_text}
@@ -240,7 +240,7 @@ show_most k (b ∷ p) h =
 
 module _ {A : Type 0} (limit : ℕ) (admits : Value A → Bool) where
   abbrev text : List ℕ → List ℕ
-  text p = piece_text {A = A} Reversed false limit admits p
+  text p = span_text {A = A} Reversed false limit admits p
 
   text_most : (k : ℕ) (p : List ℕ) → 0 < length p
       → total k (text p) + left_by (held_after k (text p)) ≤ k + left_by k + 7 * length p
@@ -253,7 +253,7 @@ module _ {A : Type 0} (limit : ℕ) (admits : Value A → Bool) where
       by false = show_most k p h
 
   abbrev texts : List ℕ → List ℕ → List ℕ
-  texts r s = flat_map text (pieces_after false r s)
+  texts r s = flat_map text (spans_after false r s)
 
   abbrev Most : ℕ → List ℕ → List ℕ → ℕ → Type 0
   Most k t r n = total k t + left_by (held_after k t) + 7 * length r ≤ k + left_by k + 7 * n
@@ -272,7 +272,7 @@ module _ {A : Type 0} (limit : ℕ) (admits : Value A → Bool) where
       → Most k (texts r s) (rest_after false r s) (length r + length s)
   all_most k r [] = omega arith
   all_most k r (b ∷ s) =
-      by (is_piece false (r ++ b ∷ [])) (all_most (held_after k (text (r ++ b ∷ []))) [] s)
+      by (is_span false (r ++ b ∷ [])) (all_most (held_after k (text (r ++ b ∷ []))) [] s)
       (all_most k (r ++ b ∷ []) s)
     where
       p : List ℕ
@@ -284,8 +284,8 @@ module _ {A : Type 0} (limit : ℕ) (admits : Value A → Bool) where
       by : (t : Bool)
           → Most (held_after k (text p)) (texts [] s) (rest_after false [] s) (0 + length s)
           → Most k (texts p s) (rest_after false p s) (length p + length s)
-          → Most k (flat_map text (if t then p ∷ pieces_after false [] s
-          else pieces_after false p s))
+          → Most k (flat_map text (if t then p ∷ spans_after false [] s
+          else spans_after false p s))
           (if t then rest_after false [] s else rest_after false p s) (length r + suc (length s))
       by true h m =
           omega (

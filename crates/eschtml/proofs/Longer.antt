@@ -3,7 +3,7 @@ use Rattle.std.proofs.Common.{ℕ, ◌≡◌, List, [], ◌++◌, Option, ap, sy
 use Rattle.std.proofs.lemmas.Grind.{flat_map-append}
 use Rattle.esc_actions.proofs.Meanings.{meaning_more, meaning_nil}
 use Rattle.esc_actions.specs.Meaning.{meaning_within, yield_within}
-use Rattle.esc_html.proofs.Pages.{pieces_more}
+use Rattle.esc_html.proofs.Pages.{parts_more}
 use Rattle.esc_html.specs.Pages.{first_state, page_text, page_parts_from, state_from}
 use Rattle.esc_html.specs.PageParts.{html_text, page_part_text}
 use Rattle.esc_html.specs.declared.layout.Layout.{Layout}
@@ -22,7 +22,7 @@ page_longer A limit y s b =
     let pl = y.per_line in
     let first = first_state y.inline in
     ap (λ ws. html_text (page_parts_from pl first ws)) (sym (meaning_more {A = A} limit s b))
-    ∙ ap html_text (pieces_more pl first us vs)
+    ∙ ap html_text (parts_more pl first us vs)
     ∙ flat_map-append page_part_text (page_parts_from pl first us)
     (page_parts_from pl (state_from pl first us) vs)
 

@@ -16,7 +16,7 @@ item_back d = refl
 pub sixels_whole : (d e : SixelData) → sixel_row d ≡ sixel_row e → d ≡ e
 sixels_whole d e is = sym (item_back d) ∙ ap item_in is ∙ item_back e
 
--- each of the rows of pieces is that of one
+-- each of the rows of parts is that of one
 one_in : (ds : List SixelData) (i : ℕ) (e : SixelRow) → i < length (map sixel_row ds)
     → (d : SixelData) × (sixel_row d ≡ get_or (map sixel_row ds) i e)
 one_in [] i e inside = absurd (omega (arith, inside))

@@ -1,4 +1,4 @@
--- The piece of sixel data that a row says.
+-- The part of sixel data that a row says.
 use Rattle.std.specs.Prelude.{◌==◌, if◌then◌else◌}
 use Rattle.esc_sixel.specs.declared.sixel_data.SixelData.{SixelData}
 use Rattle.esc_sixel.specs.declared.sixel_data.SixelData.TheVariants.{CarriageReturn, Data, DefineColorMapHSL, DefineColorMapRGB, NewLine, Repeat, SelectColorMapEntry}

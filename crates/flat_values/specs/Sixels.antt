@@ -24,7 +24,7 @@ pixels_row k p n = record {
 abbrev pub color_row : ℕ → ℕ → SixelRow
 color_row k n = record (pixels_row k 0 0) { color = n }
 
--- The row of a piece of data. It is the whole of it, as the law `sixel_rows_are_whole` says.
+-- The row of a part of data. It is the whole of it, as the law `sixel_rows_are_whole` says.
 abbrev pub sixel_row : SixelData → SixelRow
 sixel_row (Data p) = pixels_row PIXELS p 1
 sixel_row (Repeat p n) = pixels_row REPEAT p n

@@ -2,7 +2,7 @@
 ghost use Rattle.std.specs.Prelude.{◌≡◌, ◌↔◌, IfSome, IsTrue, None};
 ghost use Rattle.flat_values.specs.FoundSixels.{item_in};
 ghost use Rattle.flat_values.specs.Sixels.{color_row, pixels_row, sixel_row};
-ghost use Rattle.esc_sixel.specs.declared.sixel_data.SixelData.{SixelData as Piece};
+ghost use Rattle.esc_sixel.specs.declared.sixel_data.SixelData.{SixelData as Part};
 
 use esc_sixel::SixelData;
 use esc_values::RgbColor;
@@ -95,7 +95,7 @@ impl SixelRow {
     /// Returns the item that has this row; none if no item has it.
     pub fn item(&self) -> Option<SixelData>
         ensures has { IfSome result (λ d. sixel_row d ≡ self.now) }
-        ensures none { result ≡ None → (d : Piece) → sixel_row d ≡ self.now → ⊥ }
+        ensures none { result ≡ None → (d : Part) → sixel_row d ≡ self.now → ⊥ }
     {
         let item = self.said();
         let row = SixelRow::of(&item);

@@ -11,8 +11,8 @@ use Rattle.esc_terminal.specs.Scrolled.{Row, with_known}
 use Rattle.esc_terminal.specs.Streams.{shown_of}
 use Rattle.esc_terminal.specs.declared.state.State.{State}
 use Rattle.esc_terminal.specs.declared.styles.Styles.{Styles}
-use Rattle.screen_lines.specs.Pieces.{Out, Piece, emptied_out, out_by, out_from}
-use Rattle.screen_lines.specs.Rows.{out_by_row, out_by_rows, row_pieces}
+use Rattle.screen_lines.specs.Parts.{Out, Part, emptied_out, out_by, out_from}
+use Rattle.screen_lines.specs.Rows.{out_by_row, out_by_rows, row_parts}
 use Rattle.screen_lines.specs.Written.{out_of}
 use Rattle.screen_lines.specs.declared.lines.Lines.{Lines}
 use Rattle.screen_lines.specs.declared.state.State.{State as Left}
@@ -22,14 +22,14 @@ use Rattle.line_collapse.specs.Streams.{rows_left}
 -- ---- rows of a screen
 
 -- the choice for characters that deceive stays the same
-pieces_keep : (o : Out) (ps : List Piece) → (out_from o ps).characters ≡ o.characters
-pieces_keep o [] = refl
-pieces_keep o (p ∷ ps) = pieces_keep (out_by o p) ps
+parts_keep : (o : Out) (ps : List Part) → (out_from o ps).characters ≡ o.characters
+parts_keep o [] = refl
+parts_keep o (p ∷ ps) = parts_keep (out_by o p) ps
 
 rows_keep : (o : Out) (rs : List Row) → (out_by_rows o rs).characters ≡ o.characters
 rows_keep o [] = refl
 rows_keep o (r ∷ rs) =
-    rows_keep (out_by_row o r) rs ∙ pieces_keep o (row_pieces o.gap r)
+    rows_keep (out_by_row o r) rs ∙ parts_keep o (row_parts o.gap r)
 
 -- lines that took so many rows, and are back at what they left before
 pub closes_on : {A : Type 0} (k : Known) (g : Grid) (n count : ℕ) (p m q : Lines A) (s : Left)

@@ -9,7 +9,7 @@ use Rattle.esc_terminal.specs.declared.terminal.Terminal.{Terminal}
 use Rattle.esc_terminal.specs.Scrolled.{Row, off_after, off_of}
 use Rattle.esc_terminal.specs.Streams.{shown_of}
 use Rattle.esc_terminal.proofs.Stepping.{goes_off_on}
-use Rattle.screen_lines.specs.Pieces.{emptied_out, first_out}
+use Rattle.screen_lines.specs.Parts.{emptied_out, first_out}
 use Rattle.screen_lines.specs.Rows.{out_by_rows}
 use Rattle.screen_lines.specs.Written.{WritesRow, out_of, text_of}
 use Rattle.screen_lines.specs.declared.lines.Lines.{Lines}

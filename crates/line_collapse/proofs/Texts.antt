@@ -5,7 +5,7 @@ use Rattle.std.proofs.lemmas.Bool.{true≢false}
 use Rattle.std.proofs.lemmas.List.Elements.{All-append, All-cons, All-nil}
 use Rattle.esc_actions.specs.Values.{Value, print, string, control, esc, csi, osc, kitty, sixel, termcap, short, enter, datum, exit}
 use Rattle.esc_filter.specs.Tokens.{IsOfTokens}
-use Rattle.esc_filter.proofs.Output.AdmittedTextsAreUnits.{more_pieces, no_pieces}
+use Rattle.esc_filter.proofs.Output.AdmittedTextsAreUnits.{more_parts, no_parts}
 use Rattle.typed_functions.specs.Escapes.{of_escape}
 use Rattle.typed_functions.specs.Functions.{Value as Function, charset, cursor, device, edit, escape, keyboard, modes, mode_status, mouse, of_csi, other, renditions, tabs, window}
 use Rattle.esc_screen.specs.declared.cell.Cell.{Cell}
@@ -15,7 +15,7 @@ use Rattle.esc_terminal.specs.Scrolled.{Row, off_after, off_by_value, with_known
 use Rattle.esc_terminal.specs.Steps.{function_known, known_by, lead_known}
 use Rattle.esc_terminal.specs.Streams.{Shown, first_shown, shown_after, shown_by}
 use Rattle.esc_screen.specs.Grids.{Size as Screen}
-use Rattle.screen_lines.specs.Pieces.{emptied_out, first_out}
+use Rattle.screen_lines.specs.Parts.{emptied_out, first_out}
 use Rattle.screen_lines.proofs.Bare.{bare_out}
 use Rattle.screen_lines.proofs.Tokens.{color_rows}
 use Rattle.line_collapse.specs.Streams.{final_of, final_out, is_selection, left_of, left_rows, open_of, rows_left, selects, shown_by_all}
@@ -25,12 +25,12 @@ use Rattle.line_collapse.specs.Windows.{Size, screen_of}
 
 pub final_color : {A : Type 0} (z : Size) (vs : List (Value A)) → IsOfTokens true (final_of z vs)
 final_color z vs = color_rows (first_out z.characters)
-    (off_after (screen_of z) (first_shown (screen_of z)) vs) (no_pieces true)
+    (off_after (screen_of z) (first_shown (screen_of z)) vs) (no_parts true)
 
 pub left_color : {A : Type 0} (z : Size) (vs : List (Value A)) → IsOfTokens true (left_of z vs)
 left_color z vs =
-    more_pieces true (final_of z vs) (open_of z vs) (final_color z vs)
-    (color_rows (emptied_out (final_out z vs)) (left_rows (shown_by_all z vs)) (no_pieces true))
+    more_parts true (final_of z vs) (open_of z vs) (final_color z vs)
+    (color_rows (emptied_out (final_out z vs)) (left_rows (shown_by_all z vs)) (no_parts true))
 
 -- ---- of one in which nothing selects a look or a link
 
@@ -104,7 +104,7 @@ final_bare : {A : Type 0} (z : Size) (vs : List (Value A)) → list_any selects 
 final_bare z vs h =
     let s = screen_of z in
     bare_out (first_out z.characters) (off_after s (first_shown s) vs) refl
-    (off_plain s (first_shown s) vs refl h) (no_pieces false)
+    (off_plain s (first_shown s) vs refl h) (no_parts false)
 
 pub final_plain : {A : Type 0} (z : Size) (vs : List (Value A)) → list_any selects vs ≡ false
     → IsOfTokens false (final_of z vs)
@@ -116,7 +116,7 @@ left_plain z vs h =
     let s = screen_of z in
     let t = shown_by_all z vs in
     let f = final_bare z vs h in
-    more_pieces false (final_of z vs) (open_of z vs) f.0
+    more_parts false (final_of z vs) (open_of z vs) f.0
     (bare_out (emptied_out (final_out z vs)) (left_rows t) f.1
     (plain_all t.known (rows_left t.known t.grid) (known_plain s (first_shown s) vs refl h))
-    (no_pieces false)).0
+    (no_parts false)).0

@@ -7,7 +7,7 @@ use Rattle.esc_screen.specs.Grids.{Grid}
 use Rattle.esc_terminal.specs.Links.{Known}
 use Rattle.esc_terminal.specs.Scrolled.{with_known}
 use Rattle.esc_terminal.specs.Streams.{Shown}
-use Rattle.screen_lines.specs.Pieces.{emptied_out}
+use Rattle.screen_lines.specs.Parts.{emptied_out}
 use Rattle.screen_lines.specs.Rows.{out_by_rows}
 use Rattle.screen_lines.specs.Written.{out_of, text_of}
 use Rattle.screen_lines.specs.declared.lines.Lines.{Lines}

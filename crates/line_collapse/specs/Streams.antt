@@ -11,7 +11,7 @@ use Rattle.esc_terminal.specs.Scrolled.{Row, off_after, with_known}
 use Rattle.esc_terminal.specs.Streams.{Shown, first_shown, shown_after, values_of as terminal_values}
 use Rattle.typed_functions.specs.Escapes.{of_escape}
 use Rattle.typed_functions.specs.Functions.{Value as Function, of_csi, renditions}
-use Rattle.screen_lines.specs.Pieces.{Out, emptied_out, first_out}
+use Rattle.screen_lines.specs.Parts.{Out, emptied_out, first_out}
 use Rattle.screen_lines.specs.Rows.{is_hidden, out_by_rows}
 use Rattle.line_collapse.specs.Windows.{Size, screen_of}
 

@@ -22,11 +22,11 @@ use screen_lines::Lines;
 use std::alloc::{AllocError, Allocator, Global};
 use text_tally::Tally;
 
-/// Takes a stream in whatever pieces it comes, and gives for each the text of the rows that became
+/// Takes a stream in whatever chunks it comes, and gives for each the text of the rows that became
 /// final: those that no longer may be written again.
 ///
 /// It keeps a screen of its size, which is made at once, the looks and links of its cells, and the
-/// text of the piece before.
+/// text of the chunk before.
 #[derive(Drop)]
 pub struct LineCollapser<A: Allocator = Global> {
     terminal: Terminal<A>,

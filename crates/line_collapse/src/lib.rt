@@ -2,7 +2,7 @@
 //! erasures and movements of the cursor, to the rows that a terminal leaves of them: those that are
 //! scrolled off its screen (crate `esc_terminal`), and at the end those that are left on it.
 //!
-//! [`LineCollapser`] takes text in pieces, as a filter wrote it, and gives the text of the rows
+//! [`LineCollapser`] takes text in chunks, as a filter wrote it, and gives the text of the rows
 //! that are final. [`Collapsing`] is a filter and a collapse after it, and [`collapse_from`] reads
 //! a stream to its end and writes the rest of the lines of its filter.
 //!

@@ -15,16 +15,16 @@ use Rattle.esc_style.specs.declared.look.Look.{Look}
 use Rattle.esc_terminal.specs.Links.{first_known, known_look, known_target, link_number, linked_of}
 use Rattle.esc_terminal.specs.Looks.{most_looks}
 use Rattle.esc_terminal.specs.Scrolled.{Row}
-use Rattle.screen_lines.specs.Pieces.{Out, Piece}
-use Rattle.screen_lines.specs.Pieces.Piece.{Change, Character, Lead}
-use Rattle.screen_lines.specs.Rows.{blanks_held, blanks_pieces, cell_pieces, cells_pieces, change_pieces, content_pieces, ended_pieces, first_going, gap_pieces, going_by, held_link, held_look, is_hidden, is_same_number, leads_pieces, mark_pieces, out_by_rows, plain_pieces, seen_pieces}
+use Rattle.screen_lines.specs.Parts.{Out, Part}
+use Rattle.screen_lines.specs.Parts.Part.{Change, Character, Lead}
+use Rattle.screen_lines.specs.Rows.{blanks_held, blanks_parts, cell_parts, cells_parts, change_parts, content_parts, ended_parts, first_going, gap_parts, going_by, held_link, held_look, is_hidden, is_same_number, leads_parts, mark_parts, out_by_rows, plain_parts, seen_parts}
 use Rattle.screen_lines.specs.declared.going.Going.{Going}
 use Rattle.screen_lines.proofs.Tokens.{AreFit, fits, rows_tokens}
 
-abbrev AreBare : List Piece → Type 0
+abbrev AreBare : List Part → Type 0
 AreBare ps = list_all (fits false) ps ≡ true
 
-bare_both : (ps qs : List Piece) → AreBare ps → AreBare qs → AreBare (ps ++ qs)
+bare_both : (ps qs : List Part) → AreBare ps → AreBare qs → AreBare (ps ++ qs)
 bare_both ps qs h k = list_all-append (fits false) ps qs ∙ rw (h, k) refl
 
 -- ---- what is known
@@ -61,24 +61,24 @@ held_none : (h : Option ℕ) → held_link first_known h ≡ None
 held_none None = refl
 held_none (Some n) = link_first n
 
--- ---- pieces
+-- ---- parts
 
 bare_change : (a b : Look) → a ≡ plain_look → b ≡ plain_look → AreBare (Change a b ∷ [])
 bare_change a b e f =
     ap (λ x. list_all (fits false) (Change x b ∷ [])) e
     ∙ ap (λ x. list_all (fits false) (Change plain_look x ∷ [])) f
 
-no_leads : (h : Option ℕ) (n : ℕ) → leads_pieces first_known h n ≡ []
+no_leads : (h : Option ℕ) (n : ℕ) → leads_parts first_known h n ≡ []
 no_leads h n =
     ap (λ (t : Bool). if t then [] else Lead (known_target n first_known) ∷ [])
     (ap (λ o. is_same_number o (link_number n [])) (held_none h)
     ∙ ap (is_same_number None) (link_first n))
 
-bare_changes : (h : Option ℕ) (n : ℕ) → AreBare (change_pieces first_known h n)
+bare_changes : (h : Option ℕ) (n : ℕ) → AreBare (change_parts first_known h n)
 bare_changes h n = by (is_same_number h (Some n))
   where
     by : (t : Bool) → AreBare (if t then []
-        else leads_pieces first_known h n
+        else leads_parts first_known h n
         ++ Change (held_look first_known h) (known_look n first_known) ∷ [])
     by true = refl
     by false =
@@ -87,10 +87,10 @@ bare_changes h n = by (is_same_number h (Some n))
         ∙ bare_change (held_look first_known h) (known_look n first_known) (held_plain h)
         (look_first n)
 
-bare_plain : (h : Option ℕ) → AreBare (plain_pieces first_known h)
+bare_plain : (h : Option ℕ) → AreBare (plain_parts first_known h)
 bare_plain None = refl
 bare_plain (Some n) =
-    ap (λ o. list_all (fits false) (ended_pieces (is_some o)
+    ap (λ o. list_all (fits false) (ended_parts (is_some o)
     ++ Change (known_look n first_known) plain_look ∷ [])) (link_first n)
     ∙ bare_change (known_look n first_known) plain_look (look_first n) refl
 
@@ -98,22 +98,22 @@ bare_spaces : (n : ℕ) → AreBare (replicate n (Character 0x20))
 bare_spaces zero = refl
 bare_spaces (suc n) = bare_spaces n
 
-bare_blanks : (h : Option ℕ) (n : ℕ) → AreBare (blanks_pieces first_known h n)
+bare_blanks : (h : Option ℕ) (n : ℕ) → AreBare (blanks_parts first_known h n)
 bare_blanks h n = by (n == 0)
   where
     by : (t : Bool) → AreBare (if t then []
-        else plain_pieces first_known h ++ replicate n (Character 0x20))
+        else plain_parts first_known h ++ replicate n (Character 0x20))
     by true = refl
-    by false = bare_both (plain_pieces first_known h) (replicate n (Character 0x20)) (bare_plain h)
+    by false = bare_both (plain_parts first_known h) (replicate n (Character 0x20)) (bare_plain h)
         (bare_spaces n)
 
-bare_marks : (a b : Option ℕ) → AreBare (mark_pieces a ++ mark_pieces b)
+bare_marks : (a b : Option ℕ) → AreBare (mark_parts a ++ mark_parts b)
 bare_marks None None = refl
 bare_marks None (Some c) = refl
 bare_marks (Some c) None = refl
 bare_marks (Some c) (Some d) = refl
 
-bare_content : (x : Content) → AreBare (content_pieces x)
+bare_content : (x : Content) → AreBare (content_parts x)
 bare_content content.Blank = refl
 bare_content content.Rest = refl
 bare_content (content.Narrow c m) = bare_marks m.first m.second
@@ -121,31 +121,31 @@ bare_content (content.Wide c m) = bare_marks m.first m.second
 
 -- ---- cells
 
-bare_seen : (w : Going) (x : Cell) → AreBare (seen_pieces first_known w x)
+bare_seen : (w : Going) (x : Cell) → AreBare (seen_parts first_known w x)
 bare_seen w x =
     let h = blanks_held w.held w.blanks in
-    bare_both (blanks_pieces first_known w.held w.blanks)
-    (change_pieces first_known h x.look ++ content_pieces x.content)
+    bare_both (blanks_parts first_known w.held w.blanks)
+    (change_parts first_known h x.look ++ content_parts x.content)
     (bare_blanks w.held w.blanks)
-    (bare_both (change_pieces first_known h x.look) (content_pieces x.content)
+    (bare_both (change_parts first_known h x.look) (content_parts x.content)
     (bare_changes h x.look) (bare_content x.content))
 
-bare_cell : (w : Going) (x : Cell) → AreBare (cell_pieces first_known w x)
+bare_cell : (w : Going) (x : Cell) → AreBare (cell_parts first_known w x)
 bare_cell w x = by (is_hidden first_known x) (is_rest x)
   where
-    by : (s t : Bool) → AreBare (if s then [] else if t then [] else seen_pieces first_known w x)
+    by : (s t : Bool) → AreBare (if s then [] else if t then [] else seen_parts first_known w x)
     by true t = refl
     by false true = refl
     by false false = bare_seen w x
 
-bare_cells : (w : Going) (xs : List Cell) → AreBare (cells_pieces first_known w xs)
+bare_cells : (w : Going) (xs : List Cell) → AreBare (cells_parts first_known w xs)
 bare_cells w [] = bare_plain w.held
 bare_cells w (x ∷ xs) =
     let v = going_by first_known w x in
-    bare_both (cell_pieces first_known w x) (cells_pieces first_known v xs) (bare_cell w x)
+    bare_both (cell_parts first_known w x) (cells_parts first_known v xs) (bare_cell w x)
     (bare_cells v xs)
 
-bare_gap : (b : Bool) → AreBare (gap_pieces b)
+bare_gap : (b : Bool) → AreBare (gap_parts b)
 bare_gap true = refl
 bare_gap false = refl
 
@@ -153,8 +153,8 @@ bare_gap false = refl
 
 bare_row : (r : Row) → r.1 ≡ first_known → AreFit false r
 bare_row (xs, k) e b =
-    bare_both (gap_pieces b) (cells_pieces k first_going xs) (bare_gap b)
-    (subst (λ z. AreBare (cells_pieces z first_going xs)) (sym e) (bare_cells first_going xs))
+    bare_both (gap_parts b) (cells_parts k first_going xs) (bare_gap b)
+    (subst (λ z. AreBare (cells_parts z first_going xs)) (sym e) (bare_cells first_going xs))
 
 bare_rows : (rs : List Row) → All (λ r. r.1 ≡ first_known) rs → All (AreFit false) rs
 bare_rows [] h = All-nil (AreFit false)

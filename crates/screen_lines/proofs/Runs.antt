@@ -19,9 +19,9 @@ use Rattle.esc_filter.specs.declared.unicode.Unicode.{Unicode}
 use Rattle.esc_values.proofs.Plain.{is_plain as is_low, plain_is_clear}
 use Rattle.unicode_visibility.specs.Characters.{is_deceiving}
 use Rattle.unicode_visibility.proofs.Ranges.{low_plain}
-use Rattle.screen_lines.specs.Pieces.{Out, replacement, is_text, more_room, most_room, out_by, out_from, spelled_ink, spelled_text, spelling}
-use Rattle.screen_lines.specs.Pieces.Piece.{Change, Character}
-use Rattle.screen_lines.specs.Rows.{cell_pieces, cells_pieces, change_pieces, content_pieces, going_by, held_look, is_blank_content, is_hidden, leads_pieces, mark_pieces, seen_pieces}
+use Rattle.screen_lines.specs.Parts.{Out, replacement, is_text, more_room, most_room, out_by, out_from, spelled_ink, spelled_text, spelling}
+use Rattle.screen_lines.specs.Parts.Part.{Change, Character}
+use Rattle.screen_lines.specs.Rows.{cell_parts, cells_parts, change_parts, content_parts, going_by, held_look, is_blank_content, is_hidden, leads_parts, mark_parts, seen_parts}
 use Rattle.screen_lines.specs.Runs.{BeginWith, HoldsAlone, IsPlain, going_on, ink_after, is_plain_char}
 use Rattle.screen_lines.specs.declared.going.Going.{Going}
 use Rattle.screen_lines.specs.declared.ink.Ink.{Ink}
@@ -49,7 +49,7 @@ plain_from c low high = grind (arith, nat_tests)
 pub plain_is : (n : ℕ) (x : Cell) (c : ℕ) (m : Marks) (r : Option ℕ)
     → x.content ≡ content.Narrow c m → x.look ≡ n
     → IfSome r (λ b. (is_plain_char b ≡ true) × (c ≡ b))
-    → IfSome r (λ b. mark_pieces m.first ++ mark_pieces m.second ≡ [])
+    → IfSome r (λ b. mark_parts m.first ++ mark_parts m.second ≡ [])
     → IfSome r (λ b. IsPlain n b x)
 plain_is n x c m None e l p q = tt
 plain_is n x c m (Some b) e l (p, i) q = (p, (subst (HoldsAlone b) (sym e) (i, q), l))
@@ -85,14 +85,14 @@ begin_plain n [] xs h = refl
 begin_plain n (b ∷ bs) [] h = absurd h
 begin_plain n (b ∷ bs) (x ∷ xs) (p, h) = rw (p.0, begin_plain n bs xs h) refl
 
--- ---- their pieces
+-- ---- their parts
 
-alone_pieces : (b : ℕ) (c : Content) → HoldsAlone b c → content_pieces c ≡ Character b ∷ []
-alone_pieces b content.Blank h = absurd h
-alone_pieces b content.Rest h = absurd h
-alone_pieces b (content.Narrow c m) (e, bare) =
+alone_parts : (b : ℕ) (c : Content) → HoldsAlone b c → content_parts c ≡ Character b ∷ []
+alone_parts b content.Blank h = absurd h
+alone_parts b content.Rest h = absurd h
+alone_parts b (content.Narrow c m) (e, bare) =
     ap (λ ps. Character c ∷ ps) bare ∙ ap (λ z. Character z ∷ []) e
-alone_pieces b (content.Wide c m) h = absurd h
+alone_parts b (content.Wide c m) h = absurd h
 
 alone_seen : (b : ℕ) (c : Content) → HoldsAlone b c → is_blank_content c ≡ false
 alone_seen b content.Blank h = absurd h
@@ -121,18 +121,18 @@ module _ (k : Known) (n b : ℕ) (x : Cell) (h : IsPlain n b x) where
   is_first : is_rest x ≡ false
   is_first = alone_first b x.content h.1.0
 
-  no_change : change_pieces k (Some n) x.look ≡ []
+  no_change : change_parts k (Some n) x.look ≡ []
   no_change =
       ap (λ (t : Bool). if t then []
-      else leads_pieces k (Some n) x.look
+      else leads_parts k (Some n) x.look
       ++ Change (held_look k (Some n)) (known_look x.look k) ∷ [])
       (eq-eqb n x.look (sym h.1.1))
 
-  plain_piece : cell_pieces k (going_on n) x ≡ Character b ∷ []
-  plain_piece =
-      last_of (is_hidden k x) (is_rest x) [] [] (seen_pieces k (going_on n) x) is_there is_first
-      ∙ ap (λ ps. ps ++ content_pieces x.content) no_change
-      ∙ alone_pieces b x.content h.1.0
+  plain_part : cell_parts k (going_on n) x ≡ Character b ∷ []
+  plain_part =
+      last_of (is_hidden k x) (is_rest x) [] [] (seen_parts k (going_on n) x) is_there is_first
+      ∙ ap (λ ps. ps ++ content_parts x.content) no_change
+      ∙ alone_parts b x.content h.1.0
 
   plain_going : going_by k (going_on n) x ≡ going_on n
   plain_going =
@@ -140,28 +140,28 @@ module _ (k : Known) (n b : ℕ) (x : Cell) (h : IsPlain n b x) where
       (going_on x.look) is_there is_first
       ∙ ap going_on h.1.1
 
-run_pieces : (k : Known) (n : ℕ) (bs : List ℕ) (xs : List Cell) → BeginWith n bs xs
-    → cells_pieces k (going_on n) xs
-    ≡ map Character bs ++ cells_pieces k (going_on n) (drop (length bs) xs)
-run_pieces k n [] xs h = refl
-run_pieces k n (b ∷ bs) [] h = absurd h
-run_pieces k n (b ∷ bs) (x ∷ xs) (p, h) =
-    ap (λ ps. ps ++ cells_pieces k (going_by k (going_on n) x) xs) (plain_piece k n b x p)
-    ∙ ap (λ w. Character b ∷ cells_pieces k w xs) (plain_going k n b x p)
-    ∙ ap (λ ps. Character b ∷ ps) (run_pieces k n bs xs h)
+run_parts : (k : Known) (n : ℕ) (bs : List ℕ) (xs : List Cell) → BeginWith n bs xs
+    → cells_parts k (going_on n) xs
+    ≡ map Character bs ++ cells_parts k (going_on n) (drop (length bs) xs)
+run_parts k n [] xs h = refl
+run_parts k n (b ∷ bs) [] h = absurd h
+run_parts k n (b ∷ bs) (x ∷ xs) (p, h) =
+    ap (λ ps. ps ++ cells_parts k (going_by k (going_on n) x) xs) (plain_part k n b x p)
+    ∙ ap (λ w. Character b ∷ cells_parts k w xs) (plain_going k n b x p)
+    ∙ ap (λ ps. Character b ∷ ps) (run_parts k n bs xs h)
 
 -- a run more
 pub run_added : (k : Known) (o q : Out) (w : Going) (n : ℕ) (bs : List ℕ) (xs : List Cell)
     → w ≡ going_on n → BeginWith n bs xs → q ≡ out_from o (map Character bs)
-    → out_from q (cells_pieces k w (drop (length bs) xs)) ≡ out_from o (cells_pieces k w xs)
+    → out_from q (cells_parts k w (drop (length bs) xs)) ≡ out_from o (cells_parts k w xs)
 run_added k o q w n bs xs is h e =
     let v = going_on n in
     let rest = drop (length bs) xs in
-    ap (λ z. out_from q (cells_pieces k z rest)) is
-    ∙ ap (λ z. out_from z (cells_pieces k v rest)) e
-    ∙ sym (from_more o (map Character bs) (cells_pieces k v rest))
-    ∙ ap (out_from o) (sym (run_pieces k n bs xs h))
-    ∙ ap (λ z. out_from o (cells_pieces k z xs)) (sym is)
+    ap (λ z. out_from q (cells_parts k z rest)) is
+    ∙ ap (λ z. out_from z (cells_parts k v rest)) e
+    ∙ sym (from_more o (map Character bs) (cells_parts k v rest))
+    ∙ ap (out_from o) (sym (run_parts k n bs xs h))
+    ∙ ap (λ z. out_from o (cells_parts k z xs)) (sym is)
 
 -- the cells from a place on
 abbrev pub rest_of : List Cell → ℕ → List Cell
@@ -171,34 +171,34 @@ pub rest_length : (xs : List Cell) (i : ℕ) → length (rest_of xs i) ≡ lengt
 rest_length xs i = ap length (take_rest xs i) ∙ length-drop i xs
 
 rest_added : (k : Known) (p q : Out) (w v : Going) (i n : ℕ) (xs : List Cell)
-    → out_from q (cells_pieces k v (drop n (rest_of xs i)))
-    ≡ out_from p (cells_pieces k w (rest_of xs i))
-    → out_from q (cells_pieces k v (drop (i + n) xs)) ≡ out_from p (cells_pieces k w (drop i xs))
+    → out_from q (cells_parts k v (drop n (rest_of xs i)))
+    ≡ out_from p (cells_parts k w (rest_of xs i))
+    → out_from q (cells_parts k v (drop (i + n) xs)) ≡ out_from p (cells_parts k w (drop i xs))
 rest_added k p q w v i n xs h =
     let is = take_rest xs i in
-    ap (λ ys. out_from q (cells_pieces k v ys)) (sym (drop-drop n i xs))
-    ∙ ap (λ ys. out_from q (cells_pieces k v (drop n ys))) (sym is)
+    ap (λ ys. out_from q (cells_parts k v ys)) (sym (drop-drop n i xs))
+    ∙ ap (λ ys. out_from q (cells_parts k v (drop n ys))) (sym is)
     ∙ h
-    ∙ ap (λ ys. out_from p (cells_pieces k w ys)) is
+    ∙ ap (λ ys. out_from p (cells_parts k w ys)) is
 
 -- cells more, from those of a place on
 pub more_added : (k : Known) (o p q : Out) (w v : Going) (i n : ℕ) (xs : List Cell)
-    → out_from q (cells_pieces k v (drop n (rest_of xs i)))
-    ≡ out_from p (cells_pieces k w (rest_of xs i))
-    → out_from p (cells_pieces k w (drop i xs)) ≡ o
-    → out_from q (cells_pieces k v (drop (i + n) xs)) ≡ o
+    → out_from q (cells_parts k v (drop n (rest_of xs i)))
+    ≡ out_from p (cells_parts k w (rest_of xs i))
+    → out_from p (cells_parts k w (drop i xs)) ≡ o
+    → out_from q (cells_parts k v (drop (i + n) xs)) ≡ o
 more_added k o p q w v i n xs h e = rest_added k p q w v i n xs h ∙ e
 
 -- a cell, and others after it
 pub some_added : (k : Known) (o p q : Out) (w v : Going) (n : ℕ) (xs : List Cell) (d : Cell)
-    → 0 < length xs → p ≡ out_from o (cell_pieces k w (get_or xs 0 d))
+    → 0 < length xs → p ≡ out_from o (cell_parts k w (get_or xs 0 d))
     → v ≡ going_by k w (get_or xs 0 d)
-    → out_from q (cells_pieces k v (drop n (rest_of xs 1)))
-    ≡ out_from p (cells_pieces k v (rest_of xs 1))
-    → out_from q (cells_pieces k v (drop (n + 1) xs)) ≡ out_from o (cells_pieces k w xs)
+    → out_from q (cells_parts k v (drop n (rest_of xs 1)))
+    ≡ out_from p (cells_parts k v (rest_of xs 1))
+    → out_from q (cells_parts k v (drop (n + 1) xs)) ≡ out_from o (cells_parts k w xs)
 some_added k o p q w v n xs d some e f h =
     let more : n + 1 ≡ 1 + n = omega arith in
-    ap (λ i. out_from q (cells_pieces k v (drop i xs))) more
+    ap (λ i. out_from q (cells_parts k v (drop i xs))) more
     ∙ rest_added k p q v v 1 n xs h
     ∙ cells_more k o p p w v 0 xs d some e f
 

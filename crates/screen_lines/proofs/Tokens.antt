@@ -10,7 +10,7 @@ use Rattle.esc_filter.specs.Tokens.{IsLink, IsOfTokens, is_plain}
 use Rattle.esc_filter.specs.declared.unicode.Unicode.{Unicode}
 use Rattle.esc_filter.specs.declared.unicode.Unicode.TheVariants.{Drop, Join, Keep, Show}
 use Rattle.esc_filter.proofs.ByLine.DataHasNoFeed.{both}
-use Rattle.esc_filter.proofs.Output.AdmittedTextsAreUnits.{clear_plain, more_pieces, no_pieces, one_piece, plain_piece}
+use Rattle.esc_filter.proofs.Output.AdmittedTextsAreUnits.{clear_plain, more_parts, no_parts, one_part, plain_part}
 use Rattle.esc_filter.proofs.Output.DeceivingCharacters.{ascii_low, is_ascii, number_ascii, number_clear, number_shown}
 use Rattle.esc_sgr.specs.Sgr.{change_text, look_text, same_look}
 use Rattle.esc_style.specs.declared.look.Look.{Look}
@@ -20,9 +20,9 @@ use Rattle.esc_values.specs.Clear.{is_clear}
 use Rattle.esc_values.proofs.Plain.{is_plain as is_low, plain_clear}
 use Rattle.unicode_visibility.specs.Characters.{is_deceiving, number_text}
 use Rattle.unicode_visibility.specs.Following.{may_follow}
-use Rattle.screen_lines.specs.Pieces.{Out, Piece, begun_text, end_text, ended_ink, id_of, id_text, replacement, is_address_char, is_id, is_text, is_writable, lead_length, lead_text, out_by, out_from, piece_ink, piece_text, room_after, spelled_ink, spelled_text, spelling}
-use Rattle.screen_lines.specs.Pieces.Piece.{Change, Character, Lead, LineEnd}
-use Rattle.screen_lines.specs.Rows.{out_by_row, out_by_rows, row_pieces}
+use Rattle.screen_lines.specs.Parts.{Out, Part, begun_text, end_text, ended_ink, id_of, id_text, replacement, is_address_char, is_id, is_text, is_writable, lead_length, lead_text, out_by, out_from, part_ink, part_text, room_after, spelled_ink, spelled_text, spelling}
+use Rattle.screen_lines.specs.Parts.Part.{Change, Character, Lead, LineEnd}
+use Rattle.screen_lines.specs.Rows.{out_by_row, out_by_rows, row_parts}
 use Rattle.screen_lines.specs.declared.ink.Ink.{Ink}
 use Rattle.screen_lines.specs.declared.spelling.Spelling.{Spelling}
 use Rattle.screen_lines.specs.declared.spelling.Spelling.TheVariants.{Absent, AsItIs, ByNumber}
@@ -32,14 +32,14 @@ use Rattle.screen_lines.proofs.Looks.{look_rendition}
 
 bytes_tokens : (k : Bool) (t : List ℕ) → list_all is_ascii t ≡ true → list_all is_clear t ≡ true
     → list_all is_shown t ≡ true → IsOfTokens k t
-bytes_tokens k [] a b c = no_pieces k
+bytes_tokens k [] a b c = no_parts k
 bytes_tokens k (x ∷ t) a b c =
     let p = and_parts (is_ascii x) (list_all is_ascii t) a in
     let q = and_parts (is_clear x) (list_all is_clear t) b in
     let r = and_parts (is_shown x) (list_all is_shown t) c in
-    more_pieces k (x ∷ []) t
+    more_parts k (x ∷ []) t
     (subst (IsOfTokens k) (encode_ascii x (ascii_low x p.0))
-    (plain_piece k x (clear_plain x q.0 r.0)))
+    (plain_part k x (clear_plain x q.0 r.0)))
     (bytes_tokens k t p.1 q.1 r.1)
 
 number_tokens : (k : Bool) (c : ℕ) → IsOfTokens k (number_text c)
@@ -53,14 +53,14 @@ text_plain c h =
 
 instead_tokens : (k : Bool) (u : Unicode) (b : Option ℕ) (c : ℕ) → is_plain c ≡ true
     → IsOfTokens k (spelled_text (replacement u b c) c)
-instead_tokens k Keep b c h = plain_piece k c h
+instead_tokens k Keep b c h = plain_part k c h
 instead_tokens k Join b c h = by (may_follow b c)
   where
     by : (t : Bool) → IsOfTokens k (spelled_text (if t then AsItIs else ByNumber) c)
-    by true = plain_piece k c h
+    by true = plain_part k c h
     by false = number_tokens k c
 instead_tokens k Show b c h = number_tokens k c
-instead_tokens k Drop b c h = no_pieces k
+instead_tokens k Drop b c h = no_parts k
 
 char_tokens : (k : Bool) (u : Unicode) (b : Option ℕ) (c : ℕ)
     → IsOfTokens k (spelled_text (spelling u b c) c)
@@ -68,8 +68,8 @@ char_tokens k u b c = by (is_text c) refl (is_deceiving c)
   where
     by : (t : Bool) → is_text c ≡ t → (d : Bool) → IsOfTokens k
         (spelled_text (if t then if d then replacement u b c else AsItIs else Absent) c)
-    by false e d = no_pieces k
-    by true e false = plain_piece k c (text_plain c e)
+    by false e d = no_parts k
+    by true e false = plain_part k c (text_plain c e)
     by true e true = instead_tokens k u b c (text_plain c e)
 
 -- ---- links
@@ -106,8 +106,8 @@ lead_link i a h k =
     )
 
 end_tokens : (b : Bool) → IsOfTokens true (end_text b)
-end_tokens true = one_piece true (lead_text None []) (inr (inr (lead_link None [] refl refl)))
-end_tokens false = no_pieces true
+end_tokens true = one_part true (lead_text None []) (inr (inr (lead_link None [] refl refl)))
+end_tokens false = no_parts true
 
 begun_tokens : (i : Ink) (t : Target)
     → IsOfTokens true (begun_text i (lead_text (id_of t) t.1) (room_after i.room t))
@@ -118,20 +118,20 @@ begun_tokens i t = by (is_writable t) refl (nat_le (lead_length t) i.room)
         (if w then if f then Some (i.room - lead_length t) else None else None))
     by true e true =
         let q = and_parts (is_id (id_of t)) (list_all is_address_char t.1) e in
-        one_piece true (lead_text (id_of t) t.1) (inr (inr (lead_link (id_of t) t.1 q.0 q.1)))
+        one_part true (lead_text (id_of t) t.1) (inr (inr (lead_link (id_of t) t.1 q.0 q.1)))
     by true e false = end_tokens i.leads
     by false e f = end_tokens i.leads
 
--- ---- pieces: where there is no colour, these change no look and begin no link
+-- ---- parts: where there is no colour, these change no look and begin no link
 
-abbrev pub is_bare : Piece → Bool
+abbrev pub is_bare : Part → Bool
 is_bare (Character c) = true
 is_bare LineEnd = true
 is_bare (Change a b) = same_look a b
 is_bare (Lead None) = true
 is_bare (Lead (Some t)) = false
 
-abbrev pub fits : Bool → Piece → Bool
+abbrev pub fits : Bool → Part → Bool
 fits true p = true
 fits false p = is_bare p
 
@@ -141,32 +141,32 @@ IsOpen true i = Unit {0}
 IsOpen false i = i.leads ≡ false
 
 feed_tokens : (k : Bool) → IsOfTokens k (0x0a ∷ [])
-feed_tokens k = subst (IsOfTokens k) (encode_ascii 0x0a (lit< tt)) (plain_piece k 0x0a refl)
+feed_tokens k = subst (IsOfTokens k) (encode_ascii 0x0a (lit< tt)) (plain_part k 0x0a refl)
 
 change_tokens : (a b : Look) → IsOfTokens true (change_text a b)
 change_tokens a b = by (same_look a b)
   where
     by : (t : Bool) → IsOfTokens true (if t then [] else look_text b)
-    by true = no_pieces true
-    by false = one_piece true (look_text b) (inr (inl (look_rendition b)))
+    by true = no_parts true
+    by false = one_part true (look_text b) (inr (inl (look_rendition b)))
 
 bare_change : (a b : Look) → same_look a b ≡ true → IsOfTokens false (change_text a b)
 bare_change a b h =
-    subst (IsOfTokens false) (sym (ap (λ t. if t then [] else look_text b) h)) (no_pieces false)
+    subst (IsOfTokens false) (sym (ap (λ t. if t then [] else look_text b) h)) (no_parts false)
 
 bare_end : (b : Bool) → b ≡ false → IsOfTokens false (end_text b)
-bare_end b h = subst (IsOfTokens false) (sym (ap end_text h)) (no_pieces false)
+bare_end b h = subst (IsOfTokens false) (sym (ap end_text h)) (no_parts false)
 
-piece_tokens : (k : Bool) (u : Unicode) (i : Ink) (p : Piece) → fits k p ≡ true → IsOpen k i
-    → IsOfTokens k (piece_text u i p)
-piece_tokens k u i (Character c) h o = char_tokens k u i.last c
-piece_tokens k u i LineEnd h o = feed_tokens k
-piece_tokens true u i (Change a b) h o = change_tokens a b
-piece_tokens false u i (Change a b) h o = bare_change a b h
-piece_tokens true u i (Lead None) h o = end_tokens i.leads
-piece_tokens true u i (Lead (Some t)) h o = begun_tokens i t
-piece_tokens false u i (Lead None) h o = bare_end i.leads o
-piece_tokens false u i (Lead (Some t)) h o = absurd (true≢false (sym h))
+part_tokens : (k : Bool) (u : Unicode) (i : Ink) (p : Part) → fits k p ≡ true → IsOpen k i
+    → IsOfTokens k (part_text u i p)
+part_tokens k u i (Character c) h o = char_tokens k u i.last c
+part_tokens k u i LineEnd h o = feed_tokens k
+part_tokens true u i (Change a b) h o = change_tokens a b
+part_tokens false u i (Change a b) h o = bare_change a b h
+part_tokens true u i (Lead None) h o = end_tokens i.leads
+part_tokens true u i (Lead (Some t)) h o = begun_tokens i t
+part_tokens false u i (Lead None) h o = bare_end i.leads o
+part_tokens false u i (Lead (Some t)) h o = absurd (true≢false (sym h))
 
 spelled_open : (s : Spelling) (c : ℕ) (i : Ink) → i.leads ≡ false
     → (spelled_ink s c i).leads ≡ false
@@ -183,45 +183,45 @@ ended_open : (i : Ink) → i.leads ≡ false → (ended_ink i).leads ≡ false
 ended_open i o =
     ap (λ (b : Bool). (if b then record i { last = None; leads = false } else i).leads) o ∙ o
 
-piece_open : (k : Bool) (u : Unicode) (i : Ink) (p : Piece) → fits k p ≡ true → IsOpen k i
-    → IsOpen k (piece_ink u i p)
-piece_open true u i p h o = tt
-piece_open false u i (Character c) h o = spelled_open (spelling u i.last c) c i o
-piece_open false u i LineEnd h o = o
-piece_open false u i (Change a b) h o = change_open (same_look a b) i o
-piece_open false u i (Lead None) h o = ended_open i o
-piece_open false u i (Lead (Some t)) h o = absurd (true≢false (sym h))
+part_open : (k : Bool) (u : Unicode) (i : Ink) (p : Part) → fits k p ≡ true → IsOpen k i
+    → IsOpen k (part_ink u i p)
+part_open true u i p h o = tt
+part_open false u i (Character c) h o = spelled_open (spelling u i.last c) c i o
+part_open false u i LineEnd h o = o
+part_open false u i (Change a b) h o = change_open (same_look a b) i o
+part_open false u i (Lead None) h o = ended_open i o
+part_open false u i (Lead (Some t)) h o = absurd (true≢false (sym h))
 
-from_tokens : (k : Bool) (o : Out) (ps : List Piece) → list_all (fits k) ps ≡ true
+from_tokens : (k : Bool) (o : Out) (ps : List Part) → list_all (fits k) ps ≡ true
     → IsOpen k o.ink → IsOfTokens k o.text
     → IsOfTokens k (out_from o ps).text × IsOpen k (out_from o ps).ink
 from_tokens k o [] h i t = (t, i)
 from_tokens k o (p ∷ ps) h i t =
     let q = and_parts (fits k p) (list_all (fits k) ps) h in
     let u = o.characters in
-    from_tokens k (out_by o p) ps q.1 (piece_open k u o.ink p q.0 i)
-    (more_pieces k o.text (piece_text u o.ink p) t (piece_tokens k u o.ink p q.0 i))
+    from_tokens k (out_by o p) ps q.1 (part_open k u o.ink p q.0 i)
+    (more_parts k o.text (part_text u o.ink p) t (part_tokens k u o.ink p q.0 i))
 
 -- ---- rows
 
 abbrev pub AreFit : Bool → Row → Type 0
-AreFit k r = (b : Bool) → list_all (fits k) (row_pieces b r) ≡ true
+AreFit k r = (b : Bool) → list_all (fits k) (row_parts b r) ≡ true
 
 pub rows_tokens : (k : Bool) (o : Out) (rs : List Row) → All (AreFit k) rs
     → IsOpen k o.ink → IsOfTokens k o.text
     → IsOfTokens k (out_by_rows o rs).text × IsOpen k (out_by_rows o rs).ink
 rows_tokens k o [] f i t = (t, i)
 rows_tokens k o (r ∷ rs) f i t =
-    let q = from_tokens k o (row_pieces o.gap r) (All-head (AreFit k) r rs f o.gap) i t in
+    let q = from_tokens k o (row_parts o.gap r) (All-head (AreFit k) r rs f o.gap) i t in
     rows_tokens k (out_by_row o r) rs (All-tail (AreFit k) r rs f) q.1 q.0
 
-all_fit : (ps : List Piece) → list_all (fits true) ps ≡ true
+all_fit : (ps : List Part) → list_all (fits true) ps ≡ true
 all_fit [] = refl
 all_fit (p ∷ ps) = all_fit ps
 
 rows_fit : (rs : List Row) → All (AreFit true) rs
 rows_fit [] = All-nil (AreFit true)
-rows_fit (r ∷ rs) = All-cons (AreFit true) r rs (λ b. all_fit (row_pieces b r)) (rows_fit rs)
+rows_fit (r ∷ rs) = All-cons (AreFit true) r rs (λ b. all_fit (row_parts b r)) (rows_fit rs)
 
 pub color_rows : (o : Out) (rs : List Row) → IsOfTokens true o.text
     → IsOfTokens true (out_by_rows o rs).text

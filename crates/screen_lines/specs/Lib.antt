@@ -1,4 +1,4 @@
-pub mod Pieces
+pub mod Parts
 pub mod Rows
 pub mod Runs
 pub mod Written

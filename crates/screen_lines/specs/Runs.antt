@@ -3,8 +3,8 @@ use Rattle.std.specs.Prelude.{ℕ, ◌≡◌, Bool, true, nat_le, nat_lt, ◌&&�
 use Rattle.esc_screen.specs.declared.cell.Cell.{Cell}
 use Rattle.esc_screen.specs.declared.content.Content.{Content}
 use Rattle.esc_screen.specs.declared.content.Content.TheVariants as content
-use Rattle.screen_lines.specs.Pieces.{more_room}
-use Rattle.screen_lines.specs.Rows.{mark_pieces}
+use Rattle.screen_lines.specs.Parts.{more_room}
+use Rattle.screen_lines.specs.Rows.{mark_parts}
 use Rattle.screen_lines.specs.declared.going.Going.{Going}
 use Rattle.screen_lines.specs.declared.ink.Ink.{Ink}
 
@@ -15,7 +15,7 @@ is_plain_char c = nat_le 0x20 c && nat_lt c 0x7f
 -- this one stands there, without marks
 abbrev pub HoldsAlone : ℕ → Content → Type 0
 HoldsAlone b (content.Narrow c m) = (c ≡ b)
-    × (mark_pieces m.first ++ mark_pieces m.second ≡ [])
+    × (mark_parts m.first ++ mark_parts m.second ≡ [])
 HoldsAlone b _ = ⊥
 
 -- a cell of this look has it

@@ -1,7 +1,7 @@
 -- The text that lines have written.
 use Rattle.std.specs.Prelude.{List, ℕ, ◌≡◌, string_bytes}
 use Rattle.esc_terminal.specs.Scrolled.{Row}
-use Rattle.screen_lines.specs.Pieces.{Out}
+use Rattle.screen_lines.specs.Parts.{Out}
 use Rattle.screen_lines.specs.Rows.{out_by_row}
 use Rattle.screen_lines.specs.declared.lines.Lines.{Lines}
 

@@ -4,9 +4,9 @@ ghost use Rattle.esc_screen.specs.Used.{IsUnusedFrom};
 ghost use Rattle.esc_terminal.specs.Links.{Known, known_of};
 ghost use Rattle.fallible_alloc.specs.Refusals.{Refused};
 ghost use Rattle.screen_lines.specs.Written.{WritesRow, out_of};
-ghost use Rattle.screen_lines.specs.Pieces.{out_from};
-ghost use Rattle.screen_lines.specs.Pieces.Piece.{Character};
-ghost use Rattle.screen_lines.specs.Rows.{blanks_held, blanks_pieces, cell_pieces, cells_pieces, change_pieces, content_pieces, ended_pieces, first_going, gap_pieces, going_by, held_link, held_look, is_same_number, leads_pieces, mark_pieces, marked_pieces, out_by_row, plain_pieces, seen_pieces};
+ghost use Rattle.screen_lines.specs.Parts.{out_from};
+ghost use Rattle.screen_lines.specs.Parts.Part.{Character};
+ghost use Rattle.screen_lines.specs.Rows.{blanks_held, blanks_parts, cell_parts, cells_parts, change_parts, content_parts, ended_parts, first_going, gap_parts, going_by, held_link, held_look, is_same_number, leads_parts, mark_parts, marked_parts, out_by_row, plain_parts, seen_parts};
 
 use crate::going::Going;
 use crate::hidden::{is_hidden, written};
@@ -66,7 +66,7 @@ impl<A: Allocator> Lines<A> {
         held: Option<u16>,
     ) -> Result<(), AllocError>
         ensures ok { OnOk result (out_of self.new
-            ≡ out_from (out_of self.old) (plain_pieces (known_of styles.now) held)) }
+            ≡ out_from (out_of self.old) (plain_parts (known_of styles.now) held)) }
         ensures refused { OnErr result (Refused A) }
     {
         match held {
@@ -82,7 +82,7 @@ impl<A: Allocator> Lines<A> {
         number: u16,
     ) -> Result<(), AllocError>
         ensures ok { OnOk result (out_of self.new
-            ≡ out_from (out_of self.old) (plain_pieces (known_of styles.now) (Some number))) }
+            ≡ out_from (out_of self.old) (plain_parts (known_of styles.now) (Some number))) }
         ensures refused { OnErr result (Refused A) }
     {
         self.push_end(styles.link_number(number).is_some())?;
@@ -92,7 +92,7 @@ impl<A: Allocator> Lines<A> {
     // Ends a link, if there is one.
     fn push_end(&mut self, is_there: bool) -> Result<(), AllocError>
         ensures ok { OnOk result (out_of self.new
-            ≡ out_from (out_of self.old) (ended_pieces is_there)) }
+            ≡ out_from (out_of self.old) (ended_parts is_there)) }
         ensures refused { OnErr result (Refused A) }
     {
         if is_there { self.end_link() } else { Ok(()) }
@@ -108,7 +108,7 @@ impl<A: Allocator> Lines<A> {
         count: usize,
     ) -> Result<(), AllocError>
         ensures ok { OnOk result (out_of self.new
-            ≡ out_from (out_of self.old) (blanks_pieces (known_of styles.now) held count)) }
+            ≡ out_from (out_of self.old) (blanks_parts (known_of styles.now) held count)) }
         ensures refused { OnErr result (Refused A) }
     {
         if count == 0 {
@@ -139,7 +139,7 @@ impl<A: Allocator> Lines<A> {
         number: u16,
     ) -> Result<(), AllocError>
         ensures ok { OnOk result (out_of self.new
-            ≡ out_from (out_of self.old) (change_pieces (known_of styles.now) held number)) }
+            ≡ out_from (out_of self.old) (change_parts (known_of styles.now) held number)) }
         ensures refused { OnErr result (Refused A) }
     {
         if is_same_number(held, Some(number)) {
@@ -156,7 +156,7 @@ impl<A: Allocator> Lines<A> {
         number: u16,
     ) -> Result<(), AllocError>
         ensures ok { OnOk result (out_of self.new
-            ≡ out_from (out_of self.old) (leads_pieces (known_of styles.now) held number)) }
+            ≡ out_from (out_of self.old) (leads_parts (known_of styles.now) held number)) }
         ensures refused { OnErr result (Refused A) }
     {
         if is_same_number(held_link(styles, held), styles.link_number(number)) {
@@ -168,7 +168,7 @@ impl<A: Allocator> Lines<A> {
     #[inline]
     fn push_mark(&mut self, mark: Option<char>) -> Result<(), AllocError>
         ensures ok { OnOk result (out_of self.new
-            ≡ out_from (out_of self.old) (mark_pieces mark)) }
+            ≡ out_from (out_of self.old) (mark_parts mark)) }
         ensures refused { OnErr result (Refused A) }
     {
         match mark {
@@ -182,7 +182,7 @@ impl<A: Allocator> Lines<A> {
     #[tactic(auto, using(crate::proofs::Growing::from_more))]
     fn push_marked(&mut self, c: char, marks: Marks) -> Result<(), AllocError>
         ensures ok { OnOk result (out_of self.new
-            ≡ out_from (out_of self.old) (marked_pieces c marks)) }
+            ≡ out_from (out_of self.old) (marked_parts c marks)) }
         ensures refused { OnErr result (Refused A) }
     {
         self.push(c)?;
@@ -194,7 +194,7 @@ impl<A: Allocator> Lines<A> {
     #[inline]
     fn push_content(&mut self, content: Content) -> Result<(), AllocError>
         ensures ok { OnOk result (out_of self.new
-            ≡ out_from (out_of self.old) (content_pieces content)) }
+            ≡ out_from (out_of self.old) (content_parts content)) }
         ensures refused { OnErr result (Refused A) }
     {
         match content {
@@ -214,7 +214,7 @@ impl<A: Allocator> Lines<A> {
         cell: Cell,
     ) -> Result<(), AllocError>
         ensures ok { OnOk result (out_of self.new
-            ≡ out_from (out_of self.old) (seen_pieces (known_of styles.now) going cell)) }
+            ≡ out_from (out_of self.old) (seen_parts (known_of styles.now) going cell)) }
         ensures refused { OnErr result (Refused A) }
     {
         self.push_blanks(styles, going.held, going.blanks)?;
@@ -233,7 +233,7 @@ impl<A: Allocator> Lines<A> {
     ) -> Result<Going, AllocError>
         requires { going.blanks < 2 ^ 63 }
         ensures ok { IfOk result (λ w. (out_of self.new
-            ≡ out_from (out_of self.old) (cell_pieces (known_of styles.now) going cell))
+            ≡ out_from (out_of self.old) (cell_parts (known_of styles.now) going cell))
             × (w ≡ going_by (known_of styles.now) going cell)) }
         ensures refused { OnErr result (Refused A) }
     {
@@ -264,7 +264,7 @@ impl<A: Allocator> Lines<A> {
         requires { IsUnusedFrom used cells.now }
         ensures ok { OnOk result (out_of self.new
             ≡ out_from (out_of self.old)
-            (cells_pieces (known_of styles.now) first_going cells.now)) }
+            (cells_parts (known_of styles.now) first_going cells.now)) }
         ensures refused { OnErr result (Refused A) }
     {
         self.push_written(styles, written(cells, used))
@@ -278,7 +278,7 @@ impl<A: Allocator> Lines<A> {
     ) -> Result<(), AllocError>
         ensures ok { OnOk result (out_of self.new
             ≡ out_from (out_of self.old)
-            (cells_pieces (known_of styles.now) first_going cells.now)) }
+            (cells_parts (known_of styles.now) first_going cells.now)) }
         ensures refused { OnErr result (Refused A) }
     {
         let mut going = Going {
@@ -306,8 +306,8 @@ impl<A: Allocator> Lines<A> {
         ensures count { IfOk result (λ r. (0 < r.1) × (r.1 ≤ length cells.now)
             × (r.0.blanks ≤ going.blanks + 1)) }
         ensures ok { IfOk result (λ r. out_from (out_of self.new)
-            (cells_pieces (known_of styles.now) r.0 (drop r.1 cells.now))
-            ≡ out_from (out_of self.old) (cells_pieces (known_of styles.now) going cells.now)) }
+            (cells_parts (known_of styles.now) r.0 (drop r.1 cells.now))
+            ≡ out_from (out_of self.old) (cells_parts (known_of styles.now) going cells.now)) }
         ensures refused { OnErr result (Refused A) }
     {
         let next = self.push_cell(styles, going, cells[0])?;
@@ -322,8 +322,8 @@ impl<A: Allocator> Lines<A> {
     fn push_run(&mut self, going: Going, cells: &[Cell]) -> Result<usize, AllocError>
         ensures count { IfOk result (λ n. n ≤ length cells.now) }
         ensures ok { IfOk result (λ n. (k : Known)
-            → out_from (out_of self.new) (cells_pieces k going (drop n cells.now))
-            ≡ out_from (out_of self.old) (cells_pieces k going cells.now)) }
+            → out_from (out_of self.new) (cells_parts k going (drop n cells.now))
+            ≡ out_from (out_of self.old) (cells_parts k going cells.now)) }
         ensures refused { OnErr result (Refused A) }
     {
         let Some(look) = going.look() else {
@@ -337,7 +337,7 @@ impl<A: Allocator> Lines<A> {
     // Ends the line before a row, if it has no end.
     fn push_gap(&mut self) -> Result<(), AllocError>
         ensures ok { OnOk result (out_of self.new
-            ≡ out_from (out_of self.old) (gap_pieces self.old.gap)) }
+            ≡ out_from (out_of self.old) (gap_parts self.old.gap)) }
         ensures refused { OnErr result (Refused A) }
     {
         if self.gap { self.end_line() } else { Ok(()) }

@@ -3,7 +3,7 @@ ghost use Rattle.std.specs.Prelude.{◌≡◌};
 ghost use Rattle.std.specs.List.{list_all};
 ghost use Rattle.esc_screen.specs.Used.{IsUnusedFrom};
 ghost use Rattle.esc_terminal.specs.Links.{Known, known_of};
-ghost use Rattle.screen_lines.specs.Rows.{cells_pieces, is_blank_content, is_hidden, is_unwritten};
+ghost use Rattle.screen_lines.specs.Rows.{cells_parts, is_blank_content, is_hidden, is_unwritten};
 ghost use Rattle.screen_lines.specs.declared.going.Going.{Going};
 
 use esc_screen::{Cell, Content};
@@ -42,7 +42,7 @@ fn is_unwritten(cell: &Cell) -> bool
 /// Cells up to the last that is not as at first, where so many are used at most.
 pub(crate) fn written(cells: &[Cell], used: usize) -> &[Cell]
     requires { IsUnusedFrom used cells.now }
-    ensures { (k : Known) (w : Going) → cells_pieces k w result.now ≡ cells_pieces k w cells.now }
+    ensures { (k : Known) (w : Going) → cells_parts k w result.now ≡ cells_parts k w cells.now }
 {
     let mut end = used.min(cells.len());
     while 0 < end && is_unwritten(&cells[end - 1]) {

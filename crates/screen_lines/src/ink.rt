@@ -1,6 +1,6 @@
 //! The state of a text for the characters, renditions and links after it.
 ghost use Rattle.std.specs.Prelude.{◌≡◌, None, Some, false, true};
-ghost use Rattle.screen_lines.specs.Pieces.{first_ink, more_room};
+ghost use Rattle.screen_lines.specs.Parts.{first_ink, more_room};
 ghost use Rattle.screen_lines.specs.Runs.{ink_after};
 
 /// The state of a text for what is written after it.

@@ -4,7 +4,7 @@ ghost use Rattle.std.specs.List.{All};
 ghost use Rattle.esc_filter.specs.Tokens.{IsColorText, IsPlainText};
 ghost use Rattle.esc_terminal.specs.Links.{first_known};
 ghost use Rattle.esc_terminal.specs.Scrolled.{Row};
-ghost use Rattle.screen_lines.specs.Pieces.{Out};
+ghost use Rattle.screen_lines.specs.Parts.{Out};
 ghost use Rattle.screen_lines.specs.Rows.{out_by_rows};
 
 /// Rows add only characters from U+0020 to U+007E and from U+00A0 on, line feeds, renditions and

@@ -4,7 +4,7 @@ ghost use Rattle.std.specs.List.{list_all};
 ghost use Rattle.std.specs.Option.{option_map};
 ghost use Rattle.esc_terminal.specs.Links.{target};
 ghost use Rattle.fallible_alloc.specs.Refusals.{Refused};
-ghost use Rattle.screen_lines.specs.Pieces.{id_length, id_of, id_text, is_address_char, is_id, is_writable, lead_length, lead_text, room_after};
+ghost use Rattle.screen_lines.specs.Parts.{id_length, id_of, id_text, is_address_char, is_id, is_writable, lead_length, lead_text, room_after};
 
 use esc_links::Hyperlink;
 use fallible_alloc::push_str;

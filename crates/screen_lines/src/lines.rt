@@ -5,8 +5,8 @@ ghost use Rattle.std.specs.Option.{option_map};
 ghost use Rattle.esc_terminal.specs.Links.{target};
 ghost use Rattle.fallible_alloc.specs.Refusals.{Refused};
 ghost use Rattle.screen_lines.specs.Written.{out_of, text_of};
-ghost use Rattle.screen_lines.specs.Pieces.{emptied_out, first_out, out_by, out_from};
-ghost use Rattle.screen_lines.specs.Pieces.Piece.{Change, Character, Lead, LineEnd};
+ghost use Rattle.screen_lines.specs.Parts.{emptied_out, first_out, out_by, out_from};
+ghost use Rattle.screen_lines.specs.Parts.Part.{Change, Character, Lead, LineEnd};
 ghost use Rattle.screen_lines.specs.Runs.{is_plain_char};
 
 use crate::ink::Ink;

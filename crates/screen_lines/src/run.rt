@@ -1,6 +1,6 @@
 //! A run of ASCII, gathered before it is appended to a text.
 ghost use Rattle.std.specs.Prelude.{◌≡◌, ◌<◌, ◌++◌, ◌∷◌, IfSome, [], length, true};
-ghost use Rattle.screen_lines.specs.Rows.{mark_pieces};
+ghost use Rattle.screen_lines.specs.Rows.{mark_parts};
 ghost use Rattle.screen_lines.specs.Runs.{BeginWith, IsPlain, is_plain_char};
 
 use esc_screen::{Cell, Content, Marks};
@@ -105,7 +105,7 @@ fn plain_byte(look: u16, cell: &Cell) -> Option<u8>
 #[inline(always)]
 fn bare_byte(c: char, marks: Marks) -> Option<u8>
     ensures plain { IfSome result (λ b. (is_plain_char b ≡ true) × (c ≡ b)) }
-    ensures bare { IfSome result (λ b. mark_pieces marks.first ++ mark_pieces marks.second ≡ []) }
+    ensures bare { IfSome result (λ b. mark_parts marks.first ++ mark_parts marks.second ≡ []) }
 {
     match (marks.first, marks.second) {
         (None, None) => plain_char(c),

@@ -1,6 +1,6 @@
 //! How a character is written.
 ghost use Rattle.std.specs.Prelude.{◌≡◌};
-ghost use Rattle.screen_lines.specs.Pieces.{replacement, is_text, spelling};
+ghost use Rattle.screen_lines.specs.Parts.{replacement, is_text, spelling};
 
 use esc_filter::{Unicode, is_deceiving, may_follow};
 

@@ -23,8 +23,8 @@ pub fn check_lengths(alloc: Global, row: &Row, report: &mut Report) {
 // Returns the stream of a row that has its chunk so many times, or this number in its place.
 fn stream_of(alloc: Global, row: &Row, number: usize, report: &mut Report) -> String {
     let mut stream = row.text(alloc, "begins", report);
-    let input_chunk = row.text(alloc, "piece", report);
-    let added = if row.has("piece") {
+    let input_chunk = row.text(alloc, "part", report);
+    let added = if row.has("part") {
         add_times(&mut stream, input_chunk.as_str(), number)
     } else {
         write!(stream, "{number}")

@@ -42,7 +42,7 @@ impl Limited<'_> {
         for at in 0..=stream.bytes.len() {
             let (begins, ends) = stream.bytes.split_at(at);
             let got = shown(alloc, self.in_input_chunks(alloc, begins, ends));
-            report.expect(stream.name, "read in two pieces", stream.actions, got);
+            report.expect(stream.name, "read in two parts", stream.actions, got);
         }
     }
 

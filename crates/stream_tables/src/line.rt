@@ -11,7 +11,7 @@ pub struct Line<'a> {
 
 // The words that lines begin with.
 const WORDS: &str = "row stream parts action more kept text unfinished first prefix gives begins \
-piece ends times limit keeps as-text as-color as-screen as-all joined shown dropped lines-kept \
+part ends times limit keeps as-text as-color as-screen as-all joined shown dropped lines-kept \
 lines-shown lines-dropped seed count holds input";
 
 impl<'a> Line<'a> {

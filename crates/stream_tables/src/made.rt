@@ -49,7 +49,7 @@ fn difference(alloc: Global, stream: &[u8], random: &mut Random) -> Option<&'sta
     }
     let wanted = Reading::Segments.read(alloc, stream);
     if !is_same(wanted, in_input_chunks(alloc, stream, random)) {
-        return Some("the stream in pieces differs");
+        return Some("the stream in parts differs");
     }
     None
 }

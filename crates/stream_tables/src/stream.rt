@@ -72,7 +72,7 @@ impl Stream<'_> {
         }
         let differences = report.differences;
         for at in 0..=self.bytes.len() {
-            self.is_read(alloc, "read in two pieces", Reading::Cut(at), report);
+            self.is_read(alloc, "read in two parts", Reading::Cut(at), report);
             if report.differences > differences {
                 break;
             }

@@ -1,4 +1,4 @@
--- The texts of spellings, piece by piece.
+-- The texts of spellings, part by part.
 use Rattle.std.proofs.Common.{◌≡◌, List, ◌++◌}
 use Rattle.std.proofs.lemmas.Grind.{flat_map-append}
 use Rattle.esc_values.specs.Params.{csi_params_text, param_text}

@@ -35,7 +35,7 @@ use Rattle.esc_filter.specs.declared.unicode.Unicode.TheVariants.{Drop, Join, Ke
 use Rattle.esc_filter.proofs.Output.DeceivingCharacters.{in_more, in_none, kinds, number_shown}
 use Rattle.esc_filter.proofs.GivingBack.RenditionsAfterSequence.{plain_lit}
 use Rattle.esc_filter.proofs.ByLine.DataHasNoFeed.{both}
-use Rattle.esc_filter.proofs.Output.AdmittedTextsAreUnits.{all_pieces, least, more_pieces, plain_piece, texts_pieces}
+use Rattle.esc_filter.proofs.Output.AdmittedTextsAreUnits.{all_parts, least, more_parts, plain_part, texts_parts}
 
 -- ---- the values that pass
 
@@ -247,16 +247,16 @@ module _ {A : Type 0}
       shown_values A k u None (passed_values limit f s)
       (filtered A k f most (meaning_within limit s))
 
-  pub passed_pieces : (limit : Option ℕ) (f : Value A → Bool) → AdmitsAtMost (least k) f
+  pub passed_parts : (limit : Option ℕ) (f : Value A → Bool) → AdmitsAtMost (least k) f
       → (s : List ℕ) → IsOfTokens k (passed_text_as u limit f s)
-  passed_pieces limit f most s =
-      texts_pieces k false false (passed_as u limit f s) (goes_on u limit f s)
+  passed_parts limit f most s =
+      texts_parts k false false (passed_as u limit f s) (goes_on u limit f s)
       (passed_least limit f most s)
 
-  pub closed_pieces : (limit : Option ℕ) (f : Value A → Bool) → AdmitsAtMost (least k) f
+  pub closed_parts : (limit : Option ℕ) (f : Value A → Bool) → AdmitsAtMost (least k) f
       → (s : List ℕ) → IsOfTokens k (closed_text_as u limit f s)
-  closed_pieces limit f most s =
-      texts_pieces k false false (closed_values f (passed_as u limit f s)) (has_ended u limit f s)
+  closed_parts limit f most s =
+      texts_parts k false false (closed_values f (passed_as u limit f s)) (has_ended u limit f s)
       (closed_least k f (passed_as u limit f s) (passed_least limit f most s))
 
   -- ---- by lines
@@ -266,20 +266,20 @@ module _ {A : Type 0}
     in_line v h = most v (and_parts (not (is_line_feed v)) (f v) h).1
 
     feed : IsOfTokens k (0x0a ∷ [])
-    feed = subst (IsOfTokens k) (encode_ascii 0x0a (lit< tt)) (plain_piece k 0x0a refl)
+    feed = subst (IsOfTokens k) (encode_ascii 0x0a (lit< tt)) (plain_part k 0x0a refl)
 
-    return_piece : IsOfTokens k (0x0d ∷ [])
-    return_piece = subst (IsOfTokens k) (encode_ascii 0x0d (lit< tt)) (plain_piece k 0x0d refl)
+    return_part : IsOfTokens k (0x0d ∷ [])
+    return_part = subst (IsOfTokens k) (encode_ascii 0x0d (lit< tt)) (plain_part k 0x0d refl)
 
-    end_piece : (r : Bool) → IsOfTokens k (end_text f r)
-    end_piece r = by (r && f (control CarriageReturn))
+    end_part : (r : Bool) → IsOfTokens k (end_text f r)
+    end_part r = by (r && f (control CarriageReturn))
       where
         by : (t : Bool) → IsOfTokens k (if t then 0x0d ∷ 0x0a ∷ [] else 0x0a ∷ [])
-        by true = more_pieces k (0x0d ∷ []) (0x0a ∷ []) return_piece feed
+        by true = more_parts k (0x0d ∷ []) (0x0a ∷ []) return_part feed
         by false = feed
 
-    line_pieces : (l : List ℕ) → IsOfTokens k (line_text u limit f l)
-    line_pieces l = by (ends_line false l)
+    line_parts : (l : List ℕ) → IsOfTokens k (line_text u limit f l)
+    line_parts l = by (ends_line false l)
       where
         m : List ℕ
         m = body (content l) ++ 0x0a ∷ []
@@ -291,15 +291,15 @@ module _ {A : Type 0}
             then list_text (closed_values f (passed_of_line u limit f m)) ++ end_text f r
             else list_text (passed_of_line u limit f (body l)))
         by true =
-            more_pieces k (list_text (closed_values f (passed_of_line u limit f m))) (end_text f r)
-            (closed_pieces (Some limit) (in_lines true f) in_line m) (end_piece r)
-        by false = passed_pieces (Some limit) (in_lines true f) in_line (body l)
+            more_parts k (list_text (closed_values f (passed_of_line u limit f m))) (end_text f r)
+            (closed_parts (Some limit) (in_lines true f) in_line m) (end_part r)
+        by false = passed_parts (Some limit) (in_lines true f) in_line (body l)
 
-    pub lines_pieces : (s : List ℕ) → IsOfTokens k (text_by_lines_as u limit f s)
-    lines_pieces s = all_pieces k (line_text u limit f) (lines s) line_pieces
+    pub lines_parts : (s : List ℕ) → IsOfTokens k (text_by_lines_as u limit f s)
+    lines_parts s = all_parts k (line_text u limit f) (lines s) line_parts
 
-    pub closed_lines_pieces : (s : List ℕ) → IsOfTokens k (closed_by_lines_as u limit f s)
-    closed_lines_pieces s =
-        more_pieces k (text_by_lines_as u limit f (ended_lines s))
-        (list_text (last_values u limit f s)) (lines_pieces (ended_lines s))
-        (closed_pieces (Some limit) (in_lines true f) in_line (last_line s))
+    pub closed_lines_parts : (s : List ℕ) → IsOfTokens k (closed_by_lines_as u limit f s)
+    closed_lines_parts s =
+        more_parts k (text_by_lines_as u limit f (ended_lines s))
+        (list_text (last_values u limit f s)) (lines_parts (ended_lines s))
+        (closed_parts (Some limit) (in_lines true f) in_line (last_line s))

@@ -50,11 +50,11 @@ line_ends before l (x, none, e) = ap (ends_line before) e ∙ ends_append before
 pub line_ended : (s x : List ℕ) (i n : ℕ) → IsLine (take n (take (length x - i) (drop i x)))
     → ends_line true (s ++ take (i + n) x) ≡ true
 line_ended s x i n line =
-    let piece = take n (take (length x - i) (drop i x)) in
+    let part = take n (take (length x - i) (drop i x)) in
     ap (λ y. ends_line true (s ++ y)) (sym (run_joins x i n))
-    ∙ ap (ends_line true) (sym (append_assoc s (take i x) piece))
-    ∙ ends_append true (s ++ take i x) piece
-    ∙ line_ends (ends_line true (s ++ take i x)) piece line
+    ∙ ap (ends_line true) (sym (append_assoc s (take i x) part))
+    ∙ ends_append true (s ++ take i x) part
+    ∙ line_ends (ends_line true (s ++ take i x)) part line
 
 pub no_end : (x : List ℕ) → has_line_feed x ≡ false → ends_line false x ≡ false
 no_end [] h = refl

@@ -1,4 +1,4 @@
--- The texts of values that the policies `Text` and `Color` admit are of pieces.
+-- The texts of values that the policies `Text` and `Color` admit are of parts.
 use Rattle.std.proofs.Common.{ℕ, ◌≡◌, inl, inr, Bool, true, false, not, ◌&&◌, ◌||◌, ◌==◌, nat_le, if◌then◌else◌, List, [], ◌∷◌, ◌++◌, codes, Option, Some, None, refl, sym, ap, ◌∙◌, subst, arith, lit<, append-nil}
 use Rattle.std.specs.Char.{encode_utf8}
 use Rattle.std.specs.List.{flat_map, list_all, list_any}
@@ -38,33 +38,33 @@ use Rattle.esc_filter.proofs.Renditions.NumbersHaveNoSign.{one_natural, renditio
 use Rattle.esc_filter.proofs.ByLine.DataHasNoFeed.{both}
 use Rattle.esc_filter.proofs.Output.PartsAreAppended.{joined_both}
 
--- ---- pieces, one after another
+-- ---- parts, one after another
 
-pub no_pieces : (k : Bool) → IsOfTokens k []
-no_pieces k = ([], All-nil (IsToken k), refl)
+pub no_parts : (k : Bool) → IsOfTokens k []
+no_parts k = ([], All-nil (IsToken k), refl)
 
-pub one_piece : (k : Bool) (x : List ℕ) → IsToken k x → IsOfTokens k x
-one_piece k x h = (x ∷ [], All-cons (IsToken k) x [] h (All-nil (IsToken k)), sym (append-nil x))
+pub one_part : (k : Bool) (x : List ℕ) → IsToken k x → IsOfTokens k x
+one_part k x h = (x ∷ [], All-cons (IsToken k) x [] h (All-nil (IsToken k)), sym (append-nil x))
 
-pub more_pieces : (k : Bool) (x y : List ℕ) → IsOfTokens k x → IsOfTokens k y
+pub more_parts : (k : Bool) (x y : List ℕ) → IsOfTokens k x → IsOfTokens k y
     → IsOfTokens k (x ++ y)
-more_pieces k x y (xs, a, e) (ys, b, f) = (
+more_parts k x y (xs, a, e) (ys, b, f) = (
   xs ++ ys,
   All-append (IsToken k) xs ys a b,
   ap (λ t. t ++ y) e ∙ ap (λ t. joined_lists xs ++ t) f ∙ sym (joined_both xs ys),
 )
 
-pub all_pieces : {X : Type 0} (k : Bool) (f : X → List ℕ) (xs : List X)
+pub all_parts : {X : Type 0} (k : Bool) (f : X → List ℕ) (xs : List X)
     → ((x : X) → IsOfTokens k (f x)) → IsOfTokens k (flat_map f xs)
-all_pieces k f [] h = no_pieces k
-all_pieces k f (x ∷ xs) h = more_pieces k (f x) (flat_map f xs) (h x) (all_pieces k f xs h)
+all_parts k f [] h = no_parts k
+all_parts k f (x ∷ xs) h = more_parts k (f x) (flat_map f xs) (h x) (all_parts k f xs h)
 
-pub as_piece : (k : Bool) (x : List ℕ) → IsCharacter x → IsToken k x
-as_piece false x h = h
-as_piece true x h = inl h
+pub as_part : (k : Bool) (x : List ℕ) → IsCharacter x → IsToken k x
+as_part false x h = h
+as_part true x h = inl h
 
-pub plain_piece : (k : Bool) (c : ℕ) → is_plain c ≡ true → IsOfTokens k (encode_utf8 c)
-plain_piece k c h = one_piece k (encode_utf8 c) (as_piece k (encode_utf8 c) (c, h, refl))
+pub plain_part : (k : Bool) (c : ℕ) → is_plain c ≡ true → IsOfTokens k (encode_utf8 c)
+plain_part k c h = one_part k (encode_utf8 c) (as_part k (encode_utf8 c) (c, h, refl))
 
 -- ---- characters
 
@@ -100,36 +100,36 @@ shown_char c h = by (c == 0x7f) refl
     by true e = absurd (true≢false (sym h ∙ del (eqb-true c 0x7f e)))
     by false e = refl
 
-chars_pieces : (k : Bool) (cs : List ℕ) → list_all is_clear cs ≡ true
+chars_parts : (k : Bool) (cs : List ℕ) → list_all is_clear cs ≡ true
     → list_all is_shown (encode_utf8_all cs) ≡ true → IsOfTokens k (encode_utf8_all cs)
-chars_pieces k [] h s = no_pieces k
-chars_pieces k (c ∷ cs) h s =
+chars_parts k [] h s = no_parts k
+chars_parts k (c ∷ cs) h s =
     let q = and_parts (is_clear c) (list_all is_clear cs) h in
     let r = and_parts (list_all is_shown (encode_utf8 c)) (list_all is_shown (encode_utf8_all cs))
     (sym (list_all-append is_shown (encode_utf8 c) (encode_utf8_all cs)) ∙ s) in
-    more_pieces k (encode_utf8 c) (encode_utf8_all cs)
-    (plain_piece k c (clear_plain c q.0 (shown_char c r.0)))
-    (chars_pieces k cs q.1 r.1)
+    more_parts k (encode_utf8 c) (encode_utf8_all cs)
+    (plain_part k c (clear_plain c q.0 (shown_char c r.0)))
+    (chars_parts k cs q.1 r.1)
 
 -- ---- values
 
-text_pieces : {A : Type 0} (k : Bool) (v : Value A) → IsWritable v → is_text v ≡ true
+text_parts : {A : Type 0} (k : Bool) (v : Value A) → IsWritable v → is_text v ≡ true
     → IsOfTokens k (whole_text v)
-text_pieces k (print c) w h = plain_piece k c (clear_plain c w h)
-text_pieces k (string t) ((cs, all, e), some) h =
+text_parts k (print c) w h = plain_part k c (clear_plain c w h)
+text_parts k (string t) ((cs, all, e), some) h =
     subst (IsOfTokens k) e
-    (chars_pieces k cs all (subst (λ x. list_all is_shown x ≡ true) (sym e) h))
-text_pieces k (control c) w h = plain_piece k (code_number c) (layout_plain (code_number c) h)
-text_pieces k (esc e) w h = absurd (true≢false (sym h))
-text_pieces k (csi c) w h = absurd (true≢false (sym h))
-text_pieces k (osc c) w h = absurd (true≢false (sym h))
-text_pieces k (kitty i) w h = absurd (true≢false (sym h))
-text_pieces k (sixel s) w h = absurd (true≢false (sym h))
-text_pieces k (termcap ns) w h = absurd (true≢false (sym h))
-text_pieces k (short s) w h = absurd (true≢false (sym h))
-text_pieces k (enter e) w h = absurd (true≢false (sym h))
-text_pieces k (datum b) w h = absurd (true≢false (sym h))
-text_pieces k exit w h = absurd (true≢false (sym h))
+    (chars_parts k cs all (subst (λ x. list_all is_shown x ≡ true) (sym e) h))
+text_parts k (control c) w h = plain_part k (code_number c) (layout_plain (code_number c) h)
+text_parts k (esc e) w h = absurd (true≢false (sym h))
+text_parts k (csi c) w h = absurd (true≢false (sym h))
+text_parts k (osc c) w h = absurd (true≢false (sym h))
+text_parts k (kitty i) w h = absurd (true≢false (sym h))
+text_parts k (sixel s) w h = absurd (true≢false (sym h))
+text_parts k (termcap ns) w h = absurd (true≢false (sym h))
+text_parts k (short s) w h = absurd (true≢false (sym h))
+text_parts k (enter e) w h = absurd (true≢false (sym h))
+text_parts k (datum b) w h = absurd (true≢false (sym h))
+text_parts k exit w h = absurd (true≢false (sym h))
 
 -- the texts of a link
 
@@ -213,62 +213,62 @@ parts_are (p ∷ q ∷ us) h c l =
       ap framed_text same,
     )
 
-command_piece : {A : Type 0} (c : OperatingSystemCommand A) → IsWritableCommand c
+command_part : {A : Type 0} (c : OperatingSystemCommand A) → IsWritableCommand c
     → is_link c ≡ true → IsLink (command_text c)
-command_piece (command.SetHyperlink l) w h = link_is l w.0 h
-command_piece {A} (command.Unspecified ps) w h =
+command_part (command.SetHyperlink l) w h = link_is l w.0 h
+command_part {A} (command.Unspecified ps) w h =
     parts_are ps w.0.0 (writes_clear {A = A} (command.Unspecified ps) w) h
-command_piece _ w h = absurd (true≢false (sym h))
+command_part _ w h = absurd (true≢false (sym h))
 
-colour_pieces : {A : Type 0} (v : Value A) → IsWritable v → is_color v ≡ true
+color_parts : {A : Type 0} (v : Value A) → IsWritable v → is_color v ≡ true
     → IsOfTokens true (whole_text v)
-colour_pieces {A} (csi c) (es, one, gives) h =
-    one_piece true (whole_text {A = A} (csi c))
+color_parts {A} (csi c) (es, one, gives) h =
+    one_part true (whole_text {A = A} (csi c))
     (inr (inl (rendition_text c (one_natural A _ es c one gives) h)))
-colour_pieces {A} (osc c) w h =
-    one_piece true (whole_text {A = A} (osc c)) (inr (inr (command_piece c w h)))
-colour_pieces (print c) w h = absurd (true≢false (sym h))
-colour_pieces (string t) w h = absurd (true≢false (sym h))
-colour_pieces (control c) w h = absurd (true≢false (sym h))
-colour_pieces (esc e) w h = absurd (true≢false (sym h))
-colour_pieces (kitty i) w h = absurd (true≢false (sym h))
-colour_pieces (sixel s) w h = absurd (true≢false (sym h))
-colour_pieces (termcap ns) w h = absurd (true≢false (sym h))
-colour_pieces (short s) w h = absurd (true≢false (sym h))
-colour_pieces (enter e) w h = absurd (true≢false (sym h))
-colour_pieces (datum b) w h = absurd (true≢false (sym h))
-colour_pieces exit w h = absurd (true≢false (sym h))
+color_parts {A} (osc c) w h =
+    one_part true (whole_text {A = A} (osc c)) (inr (inr (command_part c w h)))
+color_parts (print c) w h = absurd (true≢false (sym h))
+color_parts (string t) w h = absurd (true≢false (sym h))
+color_parts (control c) w h = absurd (true≢false (sym h))
+color_parts (esc e) w h = absurd (true≢false (sym h))
+color_parts (kitty i) w h = absurd (true≢false (sym h))
+color_parts (sixel s) w h = absurd (true≢false (sym h))
+color_parts (termcap ns) w h = absurd (true≢false (sym h))
+color_parts (short s) w h = absurd (true≢false (sym h))
+color_parts (enter e) w h = absurd (true≢false (sym h))
+color_parts (datum b) w h = absurd (true≢false (sym h))
+color_parts exit w h = absurd (true≢false (sym h))
 
 -- the policy of plain text, and that of colour
 abbrev pub least : Bool → Policy
 least false = policy.Text
 least true = policy.Color
 
-value_pieces : {A : Type 0} (k : Bool) (v : Value A) → IsWritable v → admits (least k) v ≡ true
+value_parts : {A : Type 0} (k : Bool) (v : Value A) → IsWritable v → admits (least k) v ≡ true
     → IsOfTokens k (whole_text v)
-value_pieces false v w h = text_pieces false v w h
-value_pieces true v w h = by (is_text v) refl h
+value_parts false v w h = text_parts false v w h
+value_parts true v w h = by (is_text v) refl h
   where
     by : (t : Bool) → is_text v ≡ t → (t || is_color v) ≡ true
         → IsOfTokens true (whole_text v)
-    by true e g = text_pieces true v w e
-    by false e g = colour_pieces v w g
+    by true e g = text_parts true v w e
+    by false e g = color_parts v w g
 
-after_pieces : {A : Type 0} (k f : Bool) (v : Value A) → IsOfTokens k (whole_text v)
+after_parts : {A : Type 0} (k f : Bool) (v : Value A) → IsOfTokens k (whole_text v)
     → IsOfTokens k (text_after f v)
-after_pieces k f v h = by (is_terminator v && f)
+after_parts k f v h = by (is_terminator v && f)
   where
     by : (t : Bool) → IsOfTokens k (if t then [] else whole_text v)
-    by true = no_pieces k
+    by true = no_parts k
     by false = h
 
 -- the text of values that the policy admits
-pub texts_pieces : {A : Type 0} (k within f : Bool) (vs : List (Value A))
+pub texts_parts : {A : Type 0} (k within f : Bool) (vs : List (Value A))
     → AreWritableFrom within vs → list_all (admits (least k)) vs ≡ true
     → IsOfTokens k (texts_after f vs)
-texts_pieces k within f [] w h = no_pieces k
-texts_pieces k within f (v ∷ vs) (i, w, more) h =
+texts_parts k within f [] w h = no_parts k
+texts_parts k within f (v ∷ vs) (i, w, more) h =
     let q = and_parts (admits (least k) v) (list_all (admits (least k)) vs) h in
-    more_pieces k (text_after f v) (texts_after (is_string v) vs)
-    (after_pieces k f v (value_pieces k v w q.0))
-    (texts_pieces k (stays_within v) (is_string v) vs more q.1)
+    more_parts k (text_after f v) (texts_after (is_string v) vs)
+    (after_parts k f v (value_parts k v w q.0))
+    (texts_parts k (stays_within v) (is_string v) vs more q.1)

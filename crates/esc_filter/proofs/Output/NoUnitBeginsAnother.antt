@@ -1,4 +1,4 @@
--- The rest of a text of pieces after some of its pieces is a text of pieces: no piece begins
+-- The rest of a text of parts after some of its parts is a text of parts: no part begins
 -- another.
 use Rattle.std.proofs.Common.{ℕ, ◌≡◌, ◌≢◌, ◌<◌, ◌==◌, inl, inr, Bool, true, false, List, [], ◌∷◌, ◌++◌, length, drop, get_or, Option, Some, None, refl, sym, ap, ◌∙◌, subst, arith, lit<, append_assoc, length-append}
 use Rattle.std.specs.Char.{encode_utf8}
@@ -54,7 +54,7 @@ link_rest x y a b h k e =
     (cut_after 0x1b x y (0x5c ∷ a) (0x5c ∷ b) (clear_free x h) (clear_free y k)
     (sym (append_assoc x end a) ∙ ap (drop 2) e ∙ append_assoc y end b))
 
--- ---- two pieces that begin two equal texts
+-- ---- two parts that begin two equal texts
 
 -- bytes that begin with ESC are no character
 no_character : (c : ℕ) (a r : List ℕ) → is_plain c ≡ true → encode_utf8 c ++ a ≡ 0x1b ∷ r → ⊥
@@ -119,6 +119,6 @@ rest_of k (x ∷ xs) (y ∷ ys) t h j e =
     (first_rest k x y (joined_lists xs ++ t) (joined_lists ys) (All-head (IsToken k) x xs h)
     (All-head (IsToken k) y ys j) (sym (append_assoc x (joined_lists xs) t) ∙ e))
 
-pub rest_pieces : (k : Bool) (x t : List ℕ) → IsOfTokens k x → IsOfTokens k (x ++ t)
+pub rest_parts : (k : Bool) (x t : List ℕ) → IsOfTokens k x → IsOfTokens k (x ++ t)
     → IsOfTokens k t
-rest_pieces k x t (xs, h, e) (ys, j, f) = rest_of k xs ys t h j (ap (λ y. y ++ t) (sym e) ∙ f)
+rest_parts k x t (xs, h, e) (ys, j, f) = rest_of k xs ys t h j (ap (λ y. y ++ t) (sym e) ∙ f)

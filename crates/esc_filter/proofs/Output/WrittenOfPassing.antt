@@ -90,7 +90,7 @@ passes_lines false false admits v e = all_of (is_whole v) (is_line_feed v) (admi
 passes_lines true false admits v e = absurd cc
 passes_lines false true admits v e = absurd cc
 
--- the text of a piece, if the text of those before it ended so
+-- the text of a part, if the text of those before it ended so
 fed_more : {A : Type 0} (u : Guard) (limit : Option ℕ) (b : Bool) (admits : Value A → Bool)
     (s bs : List ℕ) (p q : Written A) → p.spell.text ≡ []
     → HasNoted b u (passed_as u limit admits s) p

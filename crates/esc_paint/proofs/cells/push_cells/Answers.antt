@@ -2,8 +2,8 @@ use Rattle.std.proofs.Common.{ℕ, ◌+◌, ◌<◌, ◌++◌, string_bytes, len
 use Rattle.esc_screen.specs.Cells.{blank}
 use Rattle.esc_screen.specs.declared.cell.Cell.{Cell}
 use Rattle.esc_terminal.specs.Links.{known_look, known_of}
-use Rattle.esc_paint.specs.Painting.{cells_pieces, content_pieces, pen_by}
-use Rattle.esc_paint.specs.Pieces.{pieces_text}
+use Rattle.esc_paint.specs.Painting.{cells_parts, content_parts, pen_by}
+use Rattle.esc_paint.specs.Parts.{parts_text}
 use Rattle.esc_paint.proofs.Writing.{cell_more}
 use Rattle.esc_paint.proofs.cells.push_cells.Goals as goal
 
@@ -20,11 +20,11 @@ loop-column-preserved g c =
     let l = c.look_at-look.result in
     let more = drop (i + 1) xs in
     let less : i < length xs = omega arith in
-    ap (λ z. z ++ pieces_text (cells_pieces f r (i + 1) c.after-pen.result more))
+    ap (λ z. z ++ parts_text (cells_parts f r (i + 1) c.after-pen.result more))
     c.in_ok-push_content.ensures.ok
-    ∙ ap (λ q. (t ++ pieces_text (content_pieces r i p l k))
-    ++ pieces_text (cells_pieces f r (i + 1) q more)) c.after-pen.ensures
-    ∙ ap (λ a. (t ++ pieces_text (content_pieces r i p a k))
-    ++ pieces_text (cells_pieces f r (i + 1) (pen_by p a k) more)) c.look_at-look.ensures
+    ∙ ap (λ q. (t ++ parts_text (content_parts r i p l k))
+    ++ parts_text (cells_parts f r (i + 1) q more)) c.after-pen.ensures
+    ∙ ap (λ a. (t ++ parts_text (content_parts r i p a k))
+    ++ parts_text (cells_parts f r (i + 1) (pen_by p a k) more)) c.look_at-look.ensures
     ∙ cell_more f t r i p xs (blank 0) less x refl
     ∙ c.loop-column.invariant

@@ -1,4 +1,4 @@
--- By the number of its pieces.
+-- By the number of its parts.
 use Rattle.esc_paint.proofs.Bounds.{is_bounded}
 use Rattle.esc_paint.proofs.laws.is_bounded.Goals as goal
 

@@ -17,9 +17,9 @@ returns-then-self-clause-given g c = λ r h.
 pub returns-then-length-limit-clause-given : goal.returns-then-length-limit-clause-given
 returns-then-length-limit-clause-given g c = λ r h.
     let old = c.args.self.now in
-    let new = record old { piece = c.extend.new.vec } in
+    let new = record old { span = c.extend.new.vec } in
     let q = subst (KeepsBy c.args.limit r old) c.if-self.false h in
-    pushed c.extend.result old.piece.items c.args.bytes.now c.extend.new.vec.items
+    pushed c.extend.result old.span.items c.args.bytes.now c.extend.new.vec.items
     c.extend.ensures.items (λ e.
     let k = extends_whole c.args.marking c.args.limit r old c.args.text.now.items
     c.args.text.now.items c.args.bytes.now new q (search rules) e in

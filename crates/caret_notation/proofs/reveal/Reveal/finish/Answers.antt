@@ -2,7 +2,7 @@ use Rattle.std.proofs.Common.{subst}
 use Rattle.caret_notation.proofs.StreamFilter.{at_text, ends_all}
 use Rattle.caret_notation.specs.Fed.{added_by}
 use Rattle.caret_notation.specs.Grown.{Grows}
-use Rattle.caret_notation.specs.Pieces.{rest}
+use Rattle.caret_notation.specs.Spans.{rest}
 use Rattle.caret_notation.specs.Visible.{rest_text, shown_text}
 use Rattle.caret_notation.proofs.reveal.Reveal.finish.Goals as goal
 

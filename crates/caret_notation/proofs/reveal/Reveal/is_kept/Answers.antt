@@ -12,13 +12,13 @@ pub returns-then-not-lets_stay-clause-given : goal.returns-then-not-lets_stay-cl
 returns-then-not-lets_stay-clause-given g c = λ r h.
     let rule = c.args.self.now.rule in
     let admits = g.P.Admit.admits rule.policy in
-    let piece = c.in-Some.ensures rule.limit r h.kept in
+    let span = c.in-Some.ensures rule.limit r h.kept in
     let goes : Bool = are_kept admits (meaning_within (Some rule.limit) r)
     && is_spelled r (normal_form g.row.A.Denot (Some rule.limit) r) in
     let marked = sym c.lets_stay.ensures ∙ c.if-not-lets_stay.true in (
       h,
-      sym (ap (λ b. (b && lets_stay rule.marking r) && goes) piece.1
-          ∙ ap (λ p. lets_stay rule.marking p && goes) (sym piece.0)
+      sym (ap (λ b. (b && lets_stay rule.marking r) && goes) span.1
+          ∙ ap (λ p. lets_stay rule.marking p && goes) (sym span.0)
           ∙ ap (λ b. b && goes) marked),
     )
 
@@ -27,8 +27,8 @@ returns-else-not-lets_stay-clause-given g c = λ r h.
     let old = c.args.self.now in
     let m = old.rule.marking in
     let admits = g.P.Admit.admits old.rule.policy in
-    let piece = c.in-Some.ensures old.rule.limit r h.kept in
-    let fed = subst (λ p. HasConsumedWithin (Some old.rule.limit) p old.framer) (sym piece.0)
+    let span = c.in-Some.ensures old.rule.limit r h.kept in
+    let fed = subst (λ p. HasConsumedWithin (Some old.rule.limit) p old.framer) (sym span.0)
     h.framed
     in
     let goes : List ℕ → Bool = λ p. are_kept admits (meaning_within (Some old.rule.limit) p)
@@ -38,17 +38,17 @@ returns-else-not-lets_stay-clause-given g c = λ r h.
       record {
         unfailed = h.unfailed;
         framed = subst (λ p. HasConsumedWithin (Some old.rule.limit) p c.stays_spelled.new.framer)
-            piece.0 e.0;
+            span.0 e.0;
         kept = h.kept;
       },
-      e.1 ∙ ap goes piece.0
-          ∙ ap (λ b. b && goes r) (sym (ap (λ b. b && lets_stay m r) piece.1
-          ∙ ap (lets_stay m) (sym piece.0) ∙ free)),
+      e.1 ∙ ap goes span.0
+          ∙ ap (λ b. b && goes r) (sym (ap (λ b. b && lets_stay m r) span.1
+          ∙ ap (lets_stay m) (sym span.0) ∙ free)),
     )) (c.stays_spelled.ensures.kept fed)
 
 pub returns-else-not-lets_stay-clause-refused : goal.returns-else-not-lets_stay-clause-refused
 returns-else-not-lets_stay-clause-refused g c = λ r h.
     let old = c.args.self.now in
-    let piece = c.in-Some.ensures old.rule.limit r h.kept in
+    let span = c.in-Some.ensures old.rule.limit r h.kept in
     c.stays_spelled.ensures.refused
-    (subst (λ p. HasConsumedWithin (Some old.rule.limit) p old.framer) (sym piece.0) h.framed)
+    (subst (λ p. HasConsumedWithin (Some old.rule.limit) p old.framer) (sym span.0) h.framed)

@@ -11,7 +11,7 @@ returns g c = record {
       let old = c.args.self.now in
       let bs = c.args.bytes.now in
       let f = c.in_ok-n.ensures.given old.rule.limit r h.framed in
-      c.in_ok-take_piece.ensures.given r
+      c.in_ok-take_span.ensures.given r
       (record { unfailed = h.unfailed; framed = f.0; kept = h.kept })
       (part_of old.rule.by_lines (Some old.rule.limit) r bs c.in_ok-n.n c.in_ok-n.ensures.count.0
       c.in_ok-n.ensures.count.1 c.requires.lineless f.1);
@@ -29,14 +29,14 @@ returns-in_err-n g c = record {
       (c.in_err-n.ensures.refused c.args.self.now.rule.limit r h.framed);
 }
 
-pub returns-in_err-take_piece : goal.returns-in_err-take_piece
-returns-in_err-take_piece g c = record {
+pub returns-in_err-take_span : goal.returns-in_err-take_span
+returns-in_err-take_span g c = record {
   count = grind (arith, common_steps);
   given = λ r h. grind (arith, common_steps);
   rule = search rules;
   refused = λ r h.
       let f = c.in_ok-n.ensures.given c.args.self.now.rule.limit r h.framed in
-      on_any c.from_residual-in_err-take_piece.result
-      (c.in_err-take_piece.ensures.refused r
+      on_any c.from_residual-in_err-take_span.result
+      (c.in_err-take_span.ensures.refused r
       (record { unfailed = h.unfailed; framed = f.0; kept = h.kept }));
 }

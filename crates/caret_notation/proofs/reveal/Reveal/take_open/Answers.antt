@@ -4,7 +4,7 @@ use Rattle.esc_frame.proofs.ByteRuns.ManyBytes.{tail_length}
 use Rattle.caret_notation.proofs.StreamFilter.{grown_more}
 use Rattle.caret_notation.proofs.Quiet.{open_later}
 use Rattle.caret_notation.specs.Fed.{GrowsBy, added_by}
-use Rattle.caret_notation.specs.Pieces.{rest_after}
+use Rattle.caret_notation.specs.Spans.{rest_after}
 use Rattle.caret_notation.specs.Runs.{has_line_end}
 use Rattle.caret_notation.proofs.reveal.Reveal.take_open.Goals as goal
 
@@ -17,7 +17,7 @@ loop-at-preserved g c =
     let bs = c.args.bytes.now in
     let at = c.loop-at.at in
     let n = c.in_ok-n.n in
-    let piece = take n (tail bs at) in
+    let span = take n (tail bs at) in
     let inv = c.loop-at.invariant in
     let old = c.args.self.now in
     let mid = c.loop-at.self in
@@ -32,9 +32,9 @@ loop-at-preserved g c =
           let m = rest_after old.rule.by_lines r (take at bs) in
           subst (λ x. GrowsBy V old.rule r x (added_by old) (added_by new) new)
           (run_joins bs at n)
-          (grown_more V old.rule r (take at bs) piece (added_by old) (added_by mid)
+          (grown_more V old.rule r (take at bs) span (added_by old) (added_by mid)
           (added_by new) mid new before
-          (subst (λ u. GrowsBy V u m piece (added_by mid) (added_by new) new) inv.rule
+          (subst (λ u. GrowsBy V u m span (added_by mid) (added_by new) new) inv.rule
           (c.in_ok-n.ensures.given m before.0)));
     }
 

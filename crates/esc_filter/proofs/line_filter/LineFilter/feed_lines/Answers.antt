@@ -28,7 +28,7 @@ loop-at-preserved g c =
     let at = c.loop-at.at in
     let inv = c.loop-at.invariant in
     let n = c.in-Some.n in
-    let piece = take n (tail bs at) in
+    let part = take n (tail bs at) in
     let more = take c.in_ok-at-in-Some.field-0 (tail bs (at + n)) in
     record {
       within = search rules;
@@ -39,10 +39,10 @@ loop-at-preserved g c =
           let sx = s ++ take at bs in
           let line = subst (λ x. GrowsBy u admits limit s x c.args.self.now c.feed_line.new.self)
           (run_joins bs at n)
-          (grows_more u limit admits s (take at bs) piece c.args.self.now c.loop-at.self
+          (grows_more u limit admits s (take at bs) part c.args.self.now c.loop-at.self
           c.feed_line.new.self before
           (subst (λ p. HasConsumedLines u limit (g.P.Admit.admits p) sx c.loop-at.self
-          → GrowsBy u (g.P.Admit.admits p) limit sx piece c.loop-at.self c.feed_line.new.self)
+          → GrowsBy u (g.P.Admit.admits p) limit sx part c.loop-at.self c.feed_line.new.self)
           inv.policy (c.in_ok-feed_line-in-Some.ensures.given u limit sx) before.1.0)) in
           let sy = s ++ take (at + n) bs in
           let ends : ends_line true sy ≡ true = line_ended s bs at n c.in-Some.ensures.2 in

@@ -33,7 +33,7 @@ loop-at-preserved g c =
     let inv = c.loop-at.invariant in
     let n = c.in-Some.n in
     let first = c.args.self.now in
-    let piece = take n (tail bs at) in
+    let part = take n (tail bs at) in
     let count = c.in_ok-at-in-Some.field-0 in
     let more = take count (tail bs (at + n)) in
     let policy = c.take_line.ensures.policy ∙ inv.policy in
@@ -47,12 +47,12 @@ loop-at-preserved g c =
           fed_grown k u limit admits d (take at bs) first c.loop-at.self before in
           let line = subst (λ x. GrowsResumed k u admits limit d x first c.take_line.new.self)
           (run_joins bs at n)
-          (resumes_more k u limit admits d (take at bs) piece first c.loop-at.self
+          (resumes_more k u limit admits d (take at bs) part first c.loop-at.self
           c.take_line.new.self before
           (subst (λ p. HasConsumedLines u limit (g.P.Admit.admits p) (d ++ before.0)
           c.loop-at.self.lines
           → IsMarked k u limit (g.P.Admit.admits p) (d ++ before.0) c.loop-at.self
-          → GrowsResumed k u (g.P.Admit.admits p) limit (d ++ before.0) piece c.loop-at.self
+          → GrowsResumed k u (g.P.Admit.admits p) limit (d ++ before.0) part c.loop-at.self
           c.take_line.new.self) inv.policy
           (c.in_ok-take_line-in-Some.ensures.given k u limit (d ++ before.0)) fed marks)) in
           let (fed2, marks2, same2) =

@@ -1,6 +1,6 @@
 use Rattle.std.proofs.Common.{refl, string_bytes}
 use Rattle.std.specs.Result.{is_ok}
-use Rattle.esc_sheet.specs.Sheets.Piece.{LineEnd}
+use Rattle.esc_sheet.specs.Sheets.Part.{LineEnd}
 use Rattle.esc_sheet.proofs.Sheets.{sheet_push}
 use Rattle.esc_sheet.proofs.sheet.Sheet.end_line.Goals as goal
 

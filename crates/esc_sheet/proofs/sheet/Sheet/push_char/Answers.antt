@@ -1,6 +1,6 @@
 use Rattle.std.proofs.Common.{string_bytes}
 use Rattle.std.specs.Result.{is_ok}
-use Rattle.esc_sheet.specs.Sheets.Piece.{Character}
+use Rattle.esc_sheet.specs.Sheets.Part.{Character}
 use Rattle.esc_sheet.proofs.Sheets.{sheet_push}
 use Rattle.esc_sheet.proofs.sheet.Sheet.push_char.Goals as goal
 

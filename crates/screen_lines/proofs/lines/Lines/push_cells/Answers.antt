@@ -1,7 +1,7 @@
 use Rattle.std.proofs.Common.{ap, ◌∙◌}
 use Rattle.std.proofs.lemmas.Result.{on_ok_weaker}
 use Rattle.esc_terminal.specs.Links.{known_of}
-use Rattle.screen_lines.specs.Pieces.{out_from}
+use Rattle.screen_lines.specs.Parts.{out_from}
 use Rattle.screen_lines.specs.Rows.{first_going}
 use Rattle.screen_lines.specs.Written.{out_of}
 use Rattle.screen_lines.proofs.lines.Lines.push_cells.Goals as goal

@@ -1,6 +1,6 @@
 use Rattle.std.proofs.Common.{ap, ◌∙◌}
-use Rattle.screen_lines.specs.Pieces.{out_by}
-use Rattle.screen_lines.specs.Pieces.Piece.{Character}
+use Rattle.screen_lines.specs.Parts.{out_by}
+use Rattle.screen_lines.specs.Parts.Part.{Character}
 use Rattle.screen_lines.specs.Written.{out_of}
 use Rattle.screen_lines.proofs.Growing.{spaces_more}
 use Rattle.screen_lines.proofs.lines.Lines.push_spaces.Goals as goal

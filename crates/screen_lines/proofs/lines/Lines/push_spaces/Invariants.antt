@@ -1,6 +1,6 @@
 use Rattle.std.proofs.Common.{◌≡◌, replicate}
-use Rattle.screen_lines.specs.Pieces.{out_from}
-use Rattle.screen_lines.specs.Pieces.Piece.{Character}
+use Rattle.screen_lines.specs.Parts.{out_from}
+use Rattle.screen_lines.specs.Parts.Part.{Character}
 use Rattle.screen_lines.specs.Written.{out_of}
 use Rattle.screen_lines.proofs.lines.Lines.push_spaces.Given as goal
 

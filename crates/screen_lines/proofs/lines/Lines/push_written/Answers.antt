@@ -1,7 +1,7 @@
 use Rattle.std.proofs.Common.{arith}
 use Rattle.esc_terminal.specs.Links.{known_of}
-use Rattle.screen_lines.specs.Pieces.{out_from}
-use Rattle.screen_lines.specs.Rows.{cells_pieces, first_going}
+use Rattle.screen_lines.specs.Parts.{out_from}
+use Rattle.screen_lines.specs.Rows.{cells_parts, first_going}
 use Rattle.screen_lines.specs.Written.{out_of}
 use Rattle.screen_lines.proofs.Runs.{more_added, rest_length}
 use Rattle.screen_lines.proofs.lines.Lines.push_written.Goals as goal
@@ -18,7 +18,7 @@ loop-at-preserved g c =
       (
         omega (arith, inv.1.0, few.1, long),
         more_added k
-            (out_from (out_of c.args.self.now) (cells_pieces k first_going cells))
+            (out_from (out_of c.args.self.now) (cells_parts k first_going cells))
             (out_of c.loop-at.self) (out_of c.push_some.new.self) c.loop-at.going
             c.in_ok-next.next at c.in_ok-next.count cells c.in_ok-next.ensures.ok inv.1.1,
       ),

@@ -1,4 +1,4 @@
--- Each text that is written consists of pieces.
+-- Each text that is written consists of parts.
 use Rattle.std.proofs.Common.{ℕ, ◌≡◌, Bool, true, false, List, Option, Some, None, refl, sym, subst}
 use Rattle.esc_actions.specs.Values.{Value}
 use Rattle.esc_filter.proofs.Output.AdmittedTextsAreUnits.{least}
@@ -24,27 +24,27 @@ module _ (A : Type 0) (k : Bool)
     (ended_by_lines : (u : Guard) (limit : ℕ) (f : Value A → Bool) → AdmitsAtMost (least k) f
     → (s : List ℕ) → IsOfTokens k (closed_by_lines_as u limit f s))
   where
-    closed_pieces : (r : Bool) (u : Guard) (b : Bool) (limit : ℕ) (f : Value A → Bool)
+    closed_parts : (r : Bool) (u : Guard) (b : Bool) (limit : ℕ) (f : Value A → Bool)
         → AdmitsAtMost (least k) f → (s : List ℕ) → IsOfTokens k (closed_by r u b limit f s)
-    closed_pieces r u true limit f most s =
+    closed_parts r u true limit f most s =
         ended_by_lines u limit f most (lined_text r u limit f s)
-    closed_pieces r u false limit f most s = ended u (Some limit) f most s
+    closed_parts r u false limit f most s = ended u (Some limit) f most s
 
-    going_pieces : (r : Bool) (u : Guard) (b : Bool) (limit : ℕ) (f : Value A → Bool)
+    going_parts : (r : Bool) (u : Guard) (b : Bool) (limit : ℕ) (f : Value A → Bool)
         → AdmitsAtMost (least k) f → (s : List ℕ) → IsOfTokens k (going_by r u b limit f s)
-    going_pieces r u true limit f most s = by_lines u limit f most (lined_text r u limit f s)
-    going_pieces r u false limit f most s = goes_on u (Some limit) f most s
+    going_parts r u true limit f most s = by_lines u limit f most (lined_text r u limit f s)
+    going_parts r u false limit f most s = goes_on u (Some limit) f most s
 
-    passed_pieces : (r : Bool) (u : Guard) (b e : Bool) (limit : ℕ) (f : Value A → Bool)
+    passed_parts : (r : Bool) (u : Guard) (b e : Bool) (limit : ℕ) (f : Value A → Bool)
         → AdmitsAtMost (least k) f → (s t : List ℕ) → is_passed_by r u b e limit f s t
         → IsOfTokens k t
-    passed_pieces r u true true limit f most s t h =
+    passed_parts r u true true limit f most s t h =
         subst (IsOfTokens k) (sym h.text) (ended_by_lines u limit f most (lined_text r u limit f s))
-    passed_pieces r u true false limit f most s t h =
+    passed_parts r u true false limit f most s t h =
         subst (IsOfTokens k) (sym h.text) (by_lines u limit f most (lined_text r u limit f s))
-    passed_pieces r u false true limit f most s t h =
+    passed_parts r u false true limit f most s t h =
         subst (IsOfTokens k) (sym h.text) (ended u (Some limit) f most s)
-    passed_pieces r u false false limit f most s t h =
+    passed_parts r u false false limit f most s t h =
         subst (IsOfTokens k) (sym h.text) (goes_on u (Some limit) f most s)
 
     -- where no rows are written again
@@ -52,20 +52,20 @@ module _ (A : Type 0) (k : Bool)
     left_alone true u t e = e
     left_alone false u t e = e
 
-    pub written_pieces : {P : Type 0} (V : Admitter P A) (o : FilterOptions P) → o.window ≡ None
+    pub written_parts : {P : Type 0} (V : Admitter P A) (o : FilterOptions P) → o.window ≡ None
         → AdmitsAtMost {A = A} (least k) (V.admits o.policy) → OfAllWritten V o (IsOfTokens k)
-    written_pieces V o none most = (
+    written_parts V o none most = (
       λ s. subst (λ r. IsOfTokens k (left_text A r (passed_of V o s))) (sym none)
-          (closed_pieces o.resumes o.guard o.by_lines o.limit (V.admits o.policy) most
+          (closed_parts o.resumes o.guard o.by_lines o.limit (V.admits o.policy) most
           (seen_by V o true s)),
       λ s. subst (λ r. IsOfTokens k (final_text A r (passing_of V o s))) (sym none)
-          (going_pieces o.resumes o.guard o.by_lines o.limit (V.admits o.policy) most
+          (going_parts o.resumes o.guard o.by_lines o.limit (V.admits o.policy) most
           (seen_by V o false s)),
       λ b s t h.
           let same : t ≡ h.0 =
           left_alone b h.0 t (subst (λ r. is_left_by A r b h.0 t) none h.2) in
           subst (IsOfTokens k) (sym same)
-          (passed_pieces o.resumes o.guard o.by_lines b o.limit (V.admits o.policy) most
+          (passed_parts o.resumes o.guard o.by_lines b o.limit (V.admits o.policy) most
           (seen_by V o b s) h.0 h.1),
     )
 
@@ -78,9 +78,9 @@ module _ (A : Type 0) (final : (z : Size) (s : List ℕ) → IsColorText (final_
   rows_left z true u t e = subst IsColorText (sym e) (left z u)
   rows_left z false u t e = subst IsColorText (sym e) (final z u)
 
-  pub collapsed_pieces : {P : Type 0} (V : Admitter P A) (o : FilterOptions P) (z : Size)
+  pub collapsed_parts : {P : Type 0} (V : Admitter P A) (o : FilterOptions P) (z : Size)
       → o.window ≡ Some z → OfAllWritten V o IsColorText
-  collapsed_pieces V o z rows = (
+  collapsed_parts V o z rows = (
     λ s. subst (λ r. IsColorText (left_text A r (passed_of V o s))) (sym rows)
         (left z (passed_of V o s)),
     λ s. subst (λ r. IsColorText (final_text A r (passing_of V o s))) (sym rows)
@@ -89,10 +89,10 @@ module _ (A : Type 0) (final : (z : Size) (s : List ℕ) → IsColorText (final_
   )
 
   -- whether rows are written again or not
-  pub any_pieces : {P : Type 0} (V : Admitter P A) (o : FilterOptions P)
+  pub any_parts : {P : Type 0} (V : Admitter P A) (o : FilterOptions P)
       → (o.window ≡ None → OfAllWritten V o IsColorText) → OfAllWritten V o IsColorText
-  any_pieces V o none = by o.window refl
+  any_parts V o none = by o.window refl
     where
       by : (r : Option Size) → o.window ≡ r → OfAllWritten V o IsColorText
       by None e = none e
-      by (Some z) e = collapsed_pieces V o z e
+      by (Some z) e = collapsed_parts V o z e

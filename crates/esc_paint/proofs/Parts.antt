@@ -1,4 +1,4 @@
--- The meaning of the text of a piece, and its effect on a terminal.
+-- The meaning of the text of a part, and its effect on a terminal.
 use Rattle.std.proofs.Common.{ℕ, suc, ◌≡◌, ◌+◌, ◌-◌, ◌<◌, ◌^◌, ◌==◌, true, false, if◌then◌else◌, List, [], ◌∷◌, ◌++◌, map, Some, refl, ap, sym, ◌∙◌, append_assoc, append-nil, arith, le-leb}
 use Rattle.std.specs.Prelude.{pos}
 use Rattle.std.specs.Fmt.{decimal}
@@ -31,7 +31,7 @@ use Rattle.esc_screen.specs.declared.motion.Motion.TheVariants as motion
 use Rattle.esc_screen.specs.declared.step.Step.TheVariants as step
 use Rattle.esc_terminal.specs.Steps.{function_known, function_steps, place as place_count}
 use Rattle.esc_terminal.specs.Streams.{Shown, shown_after, shown_by}
-use Rattle.esc_paint.specs.Pieces.{Piece, character, erase_all, erase_right, look, piece_step, piece_text, pieces_text, place, soft_reset}
+use Rattle.esc_paint.specs.Parts.{Part, character, erase_all, erase_right, look, part_step, part_text, parts_text, place, soft_reset}
 use Rattle.esc_paint.proofs.Texts.{AreRead, IsRead, Reading, all_texts, all_values, csi_read, print_read, reading}
 
 -- ---- bodies of numbers
@@ -137,7 +137,7 @@ unfolding class_of
 ends_right = refl
 
 pub place_read : {A : Type 0} (r n : ℕ) → r < 65536 → n < 65536
-    → IsRead {A = A} (piece_text (place r n)) (csi (unspecified (place_params r n) false 0x48) ∷ [])
+    → IsRead {A = A} (part_text (place r n)) (csi (unspecified (place_params r n) false 0x48) ∷ [])
 place_read {A} r n below before =
     let bytes = place_bytes r n below before in
     let x = place_body r n in
@@ -174,10 +174,10 @@ mark_is_body : is_csi_body (0x21 ∷ []) ≡ true
 unfolding is_csi_body
 mark_is_body = refl
 
--- ---- pieces that make no look
+-- ---- parts that make no look
 
--- a piece whose text is read as this piece
-abbrev pub Fits : Piece → Type 0
+-- a part whose text is read as this part
+abbrev pub Fits : Part → Type 0
 Fits soft_reset = Unit {0}
 Fits erase_all = Unit {0}
 Fits erase_right = Unit {0}
@@ -185,32 +185,32 @@ Fits (place r n) = (r < 65536) × (n < 65536)
 Fits (character c) = is_clear c ≡ true
 Fits (look l) = ⊥
 
-abbrev pub AllFit : List Piece → Type 0
+abbrev pub AllFit : List Part → Type 0
 AllFit [] = Unit {0}
 AllFit (p ∷ ps) = Fits p × AllFit ps
 
-abbrev pub piece_values : {A : Type 0} → Piece → List (Value A)
-piece_values soft_reset = csi (unspecified (P 0x21 ∷ []) false 0x70) ∷ []
-piece_values erase_all = csi (unspecified (Integer (pos 2) ∷ []) false 0x4a) ∷ []
-piece_values erase_right = csi (unspecified [] false 0x4b) ∷ []
-piece_values (place r n) = csi (unspecified (place_params r n) false 0x48) ∷ []
-piece_values (character c) = print c ∷ []
-piece_values (look l) = []
+abbrev pub part_values : {A : Type 0} → Part → List (Value A)
+part_values soft_reset = csi (unspecified (P 0x21 ∷ []) false 0x70) ∷ []
+part_values erase_all = csi (unspecified (Integer (pos 2) ∷ []) false 0x4a) ∷ []
+part_values erase_right = csi (unspecified [] false 0x4b) ∷ []
+part_values (place r n) = csi (unspecified (place_params r n) false 0x48) ∷ []
+part_values (character c) = print c ∷ []
+part_values (look l) = []
 
-pub piece_read : {A : Type 0} (p : Piece) → Fits p → IsRead {A = A} (piece_text p) (piece_values p)
-piece_read soft_reset h =
+pub part_read : {A : Type 0} (p : Part) → Fits p → IsRead {A = A} (part_text p) (part_values p)
+part_read soft_reset h =
     csi_read (0x21 ∷ []) 0x70 (P 0x21 ∷ []) refl mark_is_body refl (omega arith) ends_reset
-piece_read erase_all h = csi_read (0x32 ∷ []) 0x4a (Integer (pos 2) ∷ []) refl
+part_read erase_all h = csi_read (0x32 ∷ []) 0x4a (Integer (pos 2) ∷ []) refl
     (is_body (0x32 ∷ []) refl) refl (omega arith) ends_all
-piece_read erase_right h = csi_read [] 0x4b [] refl (is_body [] refl) refl (omega arith) ends_right
-piece_read (place r n) h = place_read r n h.0 h.1
-piece_read (character c) h = print_read c h
-piece_read (look l) h = absurd h
+part_read erase_right h = csi_read [] 0x4b [] refl (is_body [] refl) refl (omega arith) ends_right
+part_read (place r n) h = place_read r n h.0 h.1
+part_read (character c) h = print_read c h
+part_read (look l) h = absurd h
 
 -- if the steps of a function are one, and it says nothing of looks
-one_shown : (A : Type 0) (z : Size) (t : Shown) (p : Piece) (number : Look → ℕ) → Fits p
-    → shown_after {A = A} z t (piece_values p)
-    ≡ record t { grid = grid_by z t.grid (piece_step number p) }
+one_shown : (A : Type 0) (z : Size) (t : Shown) (p : Part) (number : Look → ℕ) → Fits p
+    → shown_after {A = A} z t (part_values p)
+    ≡ record t { grid = grid_by z t.grid (part_step number p) }
 one_shown A z t soft_reset number h =
     ap (λ f. record t {
       grid = grid_from z t.grid (function_steps t.known t.grid.cursor f ++ step.Nothing ∷ []);
@@ -240,31 +240,31 @@ one_shown A z t (place r n) number h =
 one_shown A z t (character c) number h = refl
 one_shown A z t (look l) number h = absurd h
 
--- ---- pieces, one after another
+-- ---- parts, one after another
 
-abbrev pub readings : {A : Type 0} → List Piece → List (Reading A)
+abbrev pub readings : {A : Type 0} → List Part → List (Reading A)
 readings [] = []
-readings (p ∷ ps) = reading (piece_text p) (piece_values p) ∷ readings ps
+readings (p ∷ ps) = reading (part_text p) (part_values p) ∷ readings ps
 
-pub all_read : (A : Type 0) (ps : List Piece) → AllFit ps → AreRead (readings {A = A} ps)
+pub all_read : (A : Type 0) (ps : List Part) → AllFit ps → AreRead (readings {A = A} ps)
 all_read A [] h = tt
-all_read A (p ∷ ps) h = (piece_read p h.0, all_read A ps h.1)
+all_read A (p ∷ ps) h = (part_read p h.0, all_read A ps h.1)
 
-pub text_is : (A : Type 0) (ps : List Piece) → all_texts (readings {A = A} ps) ≡ pieces_text ps
+pub text_is : (A : Type 0) (ps : List Part) → all_texts (readings {A = A} ps) ≡ parts_text ps
 text_is A [] = refl
-text_is A (p ∷ ps) = ap (λ z. piece_text p ++ z) (text_is A ps)
+text_is A (p ∷ ps) = ap (λ z. part_text p ++ z) (text_is A ps)
 
 shown_two : {A : Type 0} (z : Size) (t : Shown) (us vs : List (Value A))
     → shown_after z t (us ++ vs) ≡ shown_after z (shown_after z t us) vs
 shown_two z t [] vs = refl
 shown_two z t (u ∷ us) vs = shown_two z (shown_by z t u) us vs
 
-pub all_shown : (A : Type 0) (z : Size) (t : Shown) (ps : List Piece) (number : Look → ℕ)
+pub all_shown : (A : Type 0) (z : Size) (t : Shown) (ps : List Part) (number : Look → ℕ)
     → AllFit ps → shown_after {A = A} z t (all_values (readings ps))
-    ≡ record t { grid = grid_from z t.grid (map (piece_step number) ps) }
+    ≡ record t { grid = grid_from z t.grid (map (part_step number) ps) }
 all_shown A z t [] number h = refl
 all_shown A z t (p ∷ ps) number h =
-    let t2 = record t { grid = grid_by z t.grid (piece_step number p) } in
-    shown_two {A = A} z t (piece_values p) (all_values (readings ps))
+    let t2 = record t { grid = grid_by z t.grid (part_step number p) } in
+    shown_two {A = A} z t (part_values p) (all_values (readings ps))
     ∙ ap (λ k. shown_after {A = A} z k (all_values (readings ps))) (one_shown A z t p number h.0)
     ∙ all_shown A z t2 ps number h.1

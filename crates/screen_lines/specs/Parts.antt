@@ -1,4 +1,4 @@
--- The text of rows: pieces, one after another, and their text.
+-- The text of rows: parts, one after another, and their text.
 use Rattle.std.specs.Prelude.{ℕ, ◌+◌, ◌-◌, ◌==◌, nat_le, nat_lt, Bool, true, false, not, ◌&&◌, if◌then◌else◌, List, [], ◌∷◌, ◌++◌, codes, length, Option, None, Some}
 use Rattle.std.specs.Char.{encode_utf8}
 use Rattle.std.specs.List.{list_all}
@@ -15,13 +15,13 @@ use Rattle.screen_lines.specs.declared.ink.Ink.{Ink}
 use Rattle.screen_lines.specs.declared.spelling.Spelling.{Spelling}
 use Rattle.screen_lines.specs.declared.spelling.Spelling.TheVariants.{Absent, AsItIs, ByNumber}
 
--- A piece: a character, the end of a line, what changes one look into another, and where the
+-- A part: a character, the end of a line, what changes one look into another, and where the
 -- characters lead that come, if they do.
-pub data Piece : Type 0 where
-  Character : ℕ → Piece
-  LineEnd : Piece
-  Change : Look → Look → Piece
-  Lead : Option Target → Piece
+pub data Part : Type 0 where
+  Character : ℕ → Part
+  LineEnd : Part
+  Change : Look → Look → Part
+  Lead : Option Target → Part
 
 -- ---- characters
 
@@ -126,20 +126,20 @@ abbrev pub target_ink : Ink → Option Target → Ink
 target_ink i None = ended_ink i
 target_ink i (Some t) = begun_ink i (room_after i.room t)
 
--- ---- pieces
+-- ---- parts
 
--- the text of a piece, where this was written before it
-abbrev pub piece_text : Unicode → Ink → Piece → List ℕ
-piece_text u i (Character c) = spelled_text (spelling u i.last c) c
-piece_text u i LineEnd = 0x0a ∷ []
-piece_text u i (Change a b) = change_text a b
-piece_text u i (Lead t) = target_text i t
+-- the text of a part, where this was written before it
+abbrev pub part_text : Unicode → Ink → Part → List ℕ
+part_text u i (Character c) = spelled_text (spelling u i.last c) c
+part_text u i LineEnd = 0x0a ∷ []
+part_text u i (Change a b) = change_text a b
+part_text u i (Lead t) = target_text i t
 
-abbrev pub piece_ink : Unicode → Ink → Piece → Ink
-piece_ink u i (Character c) = spelled_ink (spelling u i.last c) c i
-piece_ink u i LineEnd = record i { last = None }
-piece_ink u i (Change a b) = if same_look a b then i else record i { last = None }
-piece_ink u i (Lead t) = target_ink i t
+abbrev pub part_ink : Unicode → Ink → Part → Ink
+part_ink u i (Character c) = spelled_ink (spelling u i.last c) c i
+part_ink u i LineEnd = record i { last = None }
+part_ink u i (Change a b) = if same_look a b then i else record i { last = None }
+part_ink u i (Lead t) = target_ink i t
 
 -- at first
 abbrev pub first_ink : Ink
@@ -153,16 +153,16 @@ pub record Out : Type 0 where
   pub gap : Bool
   pub characters : Unicode
 
-abbrev pub out_by : Out → Piece → Out
+abbrev pub out_by : Out → Part → Out
 out_by o p = record {
-  text = o.text ++ piece_text o.characters o.ink p;
-  ink = piece_ink o.characters o.ink p;
+  text = o.text ++ part_text o.characters o.ink p;
+  ink = part_ink o.characters o.ink p;
   gap = o.gap;
   characters = o.characters;
 }
 
--- after pieces, one after another
-abbrev pub out_from : Out → List Piece → Out
+-- after parts, one after another
+abbrev pub out_from : Out → List Part → Out
 out_from o [] = o
 out_from o (p ∷ ps) = out_from (out_by o p) ps
 

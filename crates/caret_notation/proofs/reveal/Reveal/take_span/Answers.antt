@@ -5,7 +5,7 @@ use Rattle.caret_notation.proofs.StreamFilter.{end_grows, more_grows}
 use Rattle.caret_notation.proofs.Ground.{ground_test}
 use Rattle.caret_notation.specs.Fed.{added_by, closed_text}
 use Rattle.caret_notation.specs.Visible.{rest_text}
-use Rattle.caret_notation.proofs.reveal.Reveal.take_piece.Goals as goal
+use Rattle.caret_notation.proofs.reveal.Reveal.take_span.Goals as goal
 
 pub returns-then-has_ended-clause-given : goal.returns-then-has_ended-clause-given
 returns-then-has_ended-clause-given g c = λ r f part.

@@ -6,8 +6,8 @@ use Rattle.caret_notation.proofs.Judging.{finds, judged_first, on_any}
 use Rattle.caret_notation.proofs.Quiet.{quiet_more}
 use Rattle.esc_actions.specs.Meaning.{meaning_within}
 use Rattle.caret_notation.specs.Judged.{HasJudged, begun, folded_verdict}
-use Rattle.caret_notation.specs.Pieces.{is_at_ground}
-use Rattle.caret_notation.proofs.judge.judge_piece.Goals as goal
+use Rattle.caret_notation.specs.Spans.{is_at_ground}
+use Rattle.caret_notation.proofs.judge.judge_span.Goals as goal
 
 -- the bytes from a place on
 abbrev tail : List ℕ → ℕ → List ℕ

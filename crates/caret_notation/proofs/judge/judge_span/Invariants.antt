@@ -1,8 +1,8 @@
 use Rattle.std.proofs.Common.{◌≡◌, ◌<◌, ◌≤◌, ◌-◌, false, [], Some, length, take}
 use Rattle.esc_frame.specs.Stream.{HasConsumedWithin}
 use Rattle.caret_notation.specs.Judged.{HasJudged, IsQuietTo}
-use Rattle.caret_notation.specs.Pieces.{is_at_ground}
-use Rattle.caret_notation.proofs.judge.judge_piece.Given as goal
+use Rattle.caret_notation.specs.Spans.{is_at_ground}
+use Rattle.caret_notation.proofs.judge.judge_span.Given as goal
 
 abbrev pub invariant-loop-at : goal.invariant-loop-at
 invariant-loop-at g l = record {
