@@ -106,7 +106,7 @@ pub first_shape : (g : Shape) (gs : List Shape) → AreSegments (g ∷ gs)
 first_shape g [] each = each
 first_shape g (h ∷ gs) each = each.0
 
--- ---- what it means
+-- ---- meaning
 
 same_end : (g : Shape) → ends_itself g ≡ is_finished g []
 same_end (Osc o ps Open) = refl

@@ -14,7 +14,7 @@ HasCut = (stream : List ℕ) → (gs : List Shape) × IsCut stream gs
 abbrev pub OneCut : Type 0
 OneCut = (stream : List ℕ) (gs hs : List Shape) → IsCut stream gs → IsCut stream hs → gs ≡ hs
 
--- ---- what is written into a book
+-- ---- entries of a book
 
 pub noted_more : (e : Entry) (es : List Entry) → noted_entries (e ∷ es) ≡ noted_entries (e ∷ [])
     ++ noted_entries es

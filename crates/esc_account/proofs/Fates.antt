@@ -35,7 +35,7 @@ same_verdict by_lines u admits b k l x y vs ws e f h =
     (same_fate by_lines u admits b k l x y vs ws e f h)
     ∙ ap (λ z. verdict_of (fate_of by_lines u admits b l y ws) (before_after u admits b z)) h
 
--- ---- what a fate says
+-- ---- by fate
 
 pub nothing_told : {A : Type 0} (by_lines : Bool) (u : Guard) (admits : Value A → Bool)
     (b : Option ℕ) (k : SegmentKind) (bytes : List ℕ) (vs : List (Value A)) → vs ≡ []

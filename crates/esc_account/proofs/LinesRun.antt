@@ -102,7 +102,7 @@ lines_same r x u [] e some = absurd (omega (arith, ap length (sym e), some))
 lines_same r x u (l ∷ ls) e some =
     subst (λ v. LinesRun r x (l ∷ ls) (l ∷ ls) (all_passed v x) []) e (same_run r x l ls)
 
--- ---- of a stream
+-- ---- a stream
 
 pub as_one : (l : List ℕ) → IsLine l → lines l ≡ l ∷ []
 as_one l (x, none, e) =

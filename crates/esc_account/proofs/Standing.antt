@@ -159,7 +159,7 @@ lines_in r P Q x y z line text s t at to n m k h is_line is_text enters counts g
     (same_stand r Q y z (drop (at + n) line) (drop (to + m) text) s t k
     (subst (λ v. k ≤ length v) (take_rest line (at + n)) few) passes more there))
 
--- ---- what is kept
+-- ---- the kept text
 
 pub open_more : (line text b u : List ℕ) → AreOpen line text → AreOpen b u
     → AreOpen (line ++ b) (text ++ u)

@@ -47,7 +47,7 @@ last_taken o n [] few = absurd (omega (arith, few))
 last_taken o zero (b ∷ x) few = refl
 last_taken o (suc n) (b ∷ x) few = last_taken (Some b) n x (omega (arith, few))
 
--- ---- what a policy is known to admit
+-- ---- values that a policy is known to admit
 
 shown : (b : ℕ) → is_data_byte b ≡ true → is_shown b ≡ true
 shown b h = grind (arith, nat_tests)

@@ -87,7 +87,7 @@ module _ {A : Type 0} (by_lines : Bool) (u : Guard) (admits : Value A → Bool) 
       ∙ ap (λ l. record { fate = fate_of by_lines u admits b k bytes vs; before = l })
       (last_is (facts_of_none b) vs)
 
--- ---- what weighs them
+-- ---- weighing by a judge
 
 module _ {P A : Type 0} (admits : P → Value A → Bool) (j : PolicyJudge P A) (b : Option ℕ)
     (k : SegmentKind) where

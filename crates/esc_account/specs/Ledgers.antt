@@ -58,7 +58,7 @@ pub record HasRun (r : Rule) (s t : List ℕ) (x : Account) (es : List Entry) : 
   pub lines : x.lines ≤ length s
   pub run : IsLineAccount r s t x es
 
--- ---- what a ledger has heard
+-- ---- the stream that a ledger has heard
 
 -- a stream that is not too long to be counted
 abbrev pub IsCounted : List ℕ → Type 0

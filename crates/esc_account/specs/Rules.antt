@@ -21,6 +21,7 @@ use Rattle.esc_account.specs.Accounts.{is_end}
 use Rattle.esc_account.specs.declared.fate.Fate.{Fate}
 use Rattle.esc_account.specs.declared.fate.Fate.TheVariants as fates
 use Rattle.esc_account.specs.declared.verdict.Verdict.{Verdict}
+use Rattle.esc_values.specs.Clear.{string_terminator}
 
 abbrev pub drops : Unicode → Bool
 drops Drop = true
@@ -116,7 +117,7 @@ is_spelled bytes text = bytes_eq text bytes
 
 -- the same as a fact
 abbrev pub IsAsItCame : List ℕ → List ℕ → Type 0
-IsAsItCame bytes text = (text ≡ bytes) ⊎ (text ≡ bytes ++ 0x1b ∷ 0x5c ∷ [])
+IsAsItCame bytes text = (text ≡ bytes) ⊎ (text ≡ bytes ++ string_terminator)
 
 -- the fate of bytes that are written as this text
 abbrev pub spelling_of : List ℕ → List ℕ → Fate

@@ -25,7 +25,7 @@ module _ {A : Type 0}
           readings_in_order = of_the_cut None s c.0 c.1;
           handed_out_is_writable = handed_out s;
           reads_back = λ ws h e. ap meaning (sym e) ∙ back ws h;
-          same_text = λ ws h e. same ws h ∙ e;
+          same_text = λ ws h e. ap list_text (ap meaning (sym e) ∙ back ws h) ∙ same ws h ∙ e;
         }
 
 pub at_meaning : {A : Type 0} (s : List ℕ) (vs : List (Value A)) → vs ≡ meaning s

@@ -22,8 +22,8 @@ pub record Headline {A : Type 0} (stream : List ℕ) (vs : List (Value A)) : Typ
   -- sequence; an escape sequence whose letter opens something; a header of a mode without some of
   -- its intermediates; data of a mode or a short control with a byte A0-FF
   pub handed_out_is_writable : EmittedAreWritable vs
-  -- if the stream is the text of a writable list, the values are its normal list, which has the
-  -- same text
+  -- if the stream is the text of a writable list, the values are its normal list, and have the same
+  -- text
   pub reads_back : (ws : List (Value A)) → AreWritable ws → list_text ws ≡ stream → vs ≡ normal ws
   pub same_text : (ws : List (Value A)) → AreWritable ws → list_text ws ≡ stream
-      → list_text (normal ws) ≡ stream
+      → list_text vs ≡ stream

@@ -3,7 +3,7 @@
 use Rattle.std.specs.Prelude.{ℕ, ◌≡◌, ◌<◌, ◌≤◌, true, false, List, [], ◌∷◌, ◌++◌, length, Option, Some, ℤ, Bool}
 use Rattle.std.specs.List.{list_all, list_any}
 use Rattle.std.specs.Char.{encode_utf8}
-use Rattle.esc_values.specs.Clear.{is_clear, IsClearText, AreTextParts, parts_of}
+use Rattle.esc_values.specs.Clear.{is_clear, IsClearText, AreTextParts, parts_of, string_terminator}
 use Rattle.esc_sequences.specs.Csis.{csi_of, ReadBack, unspecified}
 use Rattle.esc_values.specs.Params.{csi_params, is_csi_body}
 use Rattle.esc_values.specs.declared.csi_param.CsiParam.{CsiParam}
@@ -40,10 +40,10 @@ pub record LowerLaws (A : Type 0) : Type 0 where
       → Says (0xc2 ∷ b ∷ []) (Execute b ∷ [])
   pub one_segment : (t : List ℕ) (es : List Event) → IsOneSegment t es → Says t es
   pub command : (t : List ℕ) → IsClearText t
-      → Says ((0x1b ∷ 0x5d ∷ t) ++ 0x1b ∷ 0x5c ∷ []) (OscDispatch (parts_of t)
+      → Says ((0x1b ∷ 0x5d ∷ t) ++ string_terminator) (OscDispatch (parts_of t)
       ∷ EscDispatch [] false 0x5c ∷ [])
   pub application : (t : List ℕ) → AllOf is_text t
-      → Says ((0x1b ∷ 0x5f ∷ t) ++ 0x1b ∷ 0x5c ∷ []) (ApcDispatch t ∷ EscDispatch [] false 0x5c
+      → Says ((0x1b ∷ 0x5f ∷ t) ++ string_terminator) (ApcDispatch t ∷ EscDispatch [] false 0x5c
       ∷ [])
   -- the events that any stream can have
   pub events_fit : (limit : Option ℕ) (s : List ℕ) → AreFit (events_within limit s)

@@ -14,6 +14,7 @@ use Rattle.esc_sixel.specs.Texts.{is_sixel, sixel_text}
 use Rattle.xtgettcap.specs.Names.{query_text}
 use Rattle.esc_actions.specs.ControlCodes.{code_number}
 use Rattle.esc_actions.specs.Values.{Value, print, string, control, esc, csi, osc, kitty, sixel, termcap, short, enter, datum, exit}
+use Rattle.esc_values.specs.Clear.{string_terminator}
 
 -- the text of a value
 abbrev pub value_text : {A : Type 0} → Value A → List ℕ
@@ -71,7 +72,7 @@ is_left_open _ = false
 
 -- the text of a value with the string terminator that ends it
 abbrev pub whole_text : {A : Type 0} → Value A → List ℕ
-whole_text v = if is_left_open v then value_text v ++ 0x1b ∷ 0x5c ∷ [] else value_text v
+whole_text v = if is_left_open v then value_text v ++ string_terminator else value_text v
 
 -- the text of a value in a list; `follows` says that it comes directly after a string action: there
 -- a string terminator is the one that ends this action's text, and adds none

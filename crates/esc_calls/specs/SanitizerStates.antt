@@ -26,7 +26,7 @@ decoder_after (Some k) s = Some (decoder_of k s)
 
 -- ---- the text
 
--- of a stream that goes on, and of one that has ended
+-- the text of a stream that goes on, and of one that has ended
 abbrev pub going : Settings → List ℕ → List ℕ
 going o s = going_of admitter o.filter (going_bytes o.order s)
 

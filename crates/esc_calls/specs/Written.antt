@@ -1,14 +1,10 @@
 -- The parts that the calls that write a caller's values have in common.
-use Rattle.std.specs.Prelude.{ℕ, ◌≡◌, ◌⊎◌, List, [], ◌∷◌}
+use Rattle.std.specs.Prelude.{ℕ, ◌≡◌, ◌⊎◌}
 use Rattle.std.specs.Global.{Global}
 use Rattle.esc_calls.specs.declared.TheConstants.{NO_COMMAND, NO_MEMORY, NOT_WRITABLE}
 use Rattle.esc_calls.specs.declared.refusal.Refusal.{Refusal}
 use Rattle.esc_calls.specs.declared.refusal.Refusal.TheVariants as refusal
 use Rattle.fallible_alloc.specs.Refusals.{Refused}
-
--- the end of a string
-abbrev pub string_end : List ℕ
-string_end = 0x1b ∷ 0x5c ∷ []
 
 -- the status that says a refusal
 abbrev pub status_of : Refusal → ℕ

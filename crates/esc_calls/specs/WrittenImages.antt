@@ -8,7 +8,8 @@ use Rattle.esc_kitty.specs.Texts.{image_body, image_text}
 use Rattle.esc_kitty.specs.Writable.{IsWritableImage, is_kept}
 use Rattle.esc_kitty.specs.declared.image.KittyImage.{KittyImage}
 use Rattle.esc_calls.specs.ImageValues.{image_read}
-use Rattle.esc_calls.specs.Written.{RefusedFor, string_end}
+use Rattle.esc_calls.specs.Written.{RefusedFor}
+use Rattle.esc_values.specs.Clear.{string_terminator}
 
 -- the number of a kind and the fields are those of the image; the text between `ESC _` and `ESC \`
 -- is of bytes from space to DEL, and is the same image
@@ -19,7 +20,7 @@ pub record IsWrittenAs (k : ℕ) (t : Table) (i : KittyImage Global) : Type 0 wh
 
 -- the whole text of such an image
 abbrev pub IsText : ℕ → Table → List ℕ → Type 0
-IsText k t s = (i : KittyImage Global) × IsWrittenAs k t i × (s ≡ image_text i ++ string_end)
+IsText k t s = (i : KittyImage Global) × IsWrittenAs k t i × (s ≡ image_text i ++ string_terminator)
 
 -- why none was written
 abbrev pub IsRefusal : ℕ → Table → ℕ → Type 0

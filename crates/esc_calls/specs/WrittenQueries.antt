@@ -5,7 +5,8 @@ use Rattle.flat_values.specs.Fields.{Table}
 use Rattle.flat_values.specs.FoundNames.{HasNames}
 use Rattle.flat_values.specs.Held.{AreTexts, types}
 use Rattle.xtgettcap.specs.Names.{AreWritable, is_query_byte, names_of, names_text, query_text}
-use Rattle.esc_calls.specs.Written.{RefusedFor, string_end}
+use Rattle.esc_calls.specs.Written.{RefusedFor}
+use Rattle.esc_values.specs.Clear.{string_terminator}
 
 -- the fields are those of names that a query can ask for; the text between `ESC P + q` and `ESC \`
 -- is of digits and `;`, and asks for the same names
@@ -17,7 +18,7 @@ pub record IsWrittenAs (t : Table) (ns : List (List ℕ)) : Type 0 where
 
 -- the whole text of such a query
 abbrev pub IsText : Table → List ℕ → Type 0
-IsText t s = (ns : List (List ℕ)) × IsWrittenAs t ns × (s ≡ query_text ns ++ string_end)
+IsText t s = (ns : List (List ℕ)) × IsWrittenAs t ns × (s ≡ query_text ns ++ string_terminator)
 
 -- why none was written
 abbrev pub IsRefusal : Table → ℕ → Type 0

@@ -8,8 +8,9 @@ use Rattle.esc_sixel.specs.Texts.{sixel_output}
 use Rattle.esc_sixel.specs.Writable.{IsWritable, is_data_byte, is_parameter_byte, params_of}
 use Rattle.esc_sixel.specs.declared.sixel.Sixel.{Sixel}
 use Rattle.esc_calls.specs.SixelValues.{IsHeader, IsOptional, sixel_in}
-use Rattle.esc_calls.specs.Written.{RefusedFor, string_end}
+use Rattle.esc_calls.specs.Written.{RefusedFor}
 use Rattle.esc_calls.specs.declared.sixel_value.SixelValue.{SixelValue}
+use Rattle.esc_values.specs.Clear.{string_terminator}
 
 -- a number of a value: none if it is absent. It is 0 there
 abbrev pub optional : {X : Type 0} → Bool → X → Option X
@@ -43,7 +44,7 @@ pub record IsWrittenAs (v : SixelValue) (rs : List SixelRow) (s : Sixel Global) 
 -- the whole text of such an image
 abbrev pub IsText : SixelValue → List SixelRow → List ℕ → Type 0
 IsText v rs t = (s : Sixel Global) × (x : List ℕ) × (d : List ℕ) × IsWrittenAs v rs s x d
-    × (t ≡ sixel_string x d ++ string_end)
+    × (t ≡ sixel_string x d ++ string_terminator)
 
 -- any image can be held, and why none was written
 abbrev pub IsHeld : Sixel Global → Type 0

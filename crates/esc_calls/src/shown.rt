@@ -1,7 +1,7 @@
 //! The text of a value.
 ghost use Rattle.std.specs.Prelude.{◌≡◌, ◌++◌, IfOk, IfSome, OnErr};
 ghost use Rattle.std.specs.Global.{Global};
-ghost use Rattle.esc_calls.specs.Written.{string_end};
+ghost use Rattle.esc_values.specs.Clear.{string_terminator};
 ghost use Rattle.fallible_alloc.specs.Refusals.{Refused};
 
 use esc_values::Text;
@@ -21,7 +21,7 @@ pub(crate) fn display<T: Display>(alloc: Global, value: &T) -> Result<Text, Allo
 
 /// Returns a text with `ESC \` after it.
 pub(crate) fn ended(text: Text) -> Result<Text, AllocError>
-    ensures text { IfOk result (λ t. t ≡ text ++ string_end) }
+    ensures text { IfOk result (λ t. t ≡ text ++ string_terminator) }
     ensures refused { OnErr result (Refused Global) }
 {
     let mut text = text;

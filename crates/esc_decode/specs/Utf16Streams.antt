@@ -29,14 +29,14 @@ by_order Marked s = ordered_by_mark s
 
 -- ---- the text
 
--- of a stream that goes on
+-- the text of a stream that goes on
 abbrev pub text_by : Ordered → List ℕ
 text_by o = utf16_text o.0 o.1
 
 abbrev pub going_text : ByteOrder → List ℕ → List ℕ
 going_text k s = text_by (by_order k s)
 
--- of one that has ended
+-- the text of one that has ended
 abbrev pub whole_text_by : Ordered → List ℕ
 whole_text_by o = encode_utf8_all (all_characters o.0 o.1)
 
@@ -68,7 +68,7 @@ pub record DecodesMore (k : ByteOrder) (s b t : List ℕ) (d : Utf16Decoder) : T
   pub state : d ≡ decoder_of k (s ++ b)
   pub text : going_text k (s ++ b) ≡ going_text k s ++ t
 
--- of the bytes b after s the rest are left to be taken as units: a byte order mark is over, or is
+-- `rest` is left of the bytes b after s, to be taken as units: a byte order mark is over, or is
 -- still to come
 pub record LeavesUnits (k : ByteOrder) (s b rest : List ℕ) (d : Utf16Decoder) : Type 0 where
   pub awaits : d.awaits_mark ≡ awaits_mark k (s ++ b)

@@ -13,6 +13,7 @@ use Rattle.xtgettcap.specs.Names.{names_of, names_text, query_text}
 use Rattle.esc_device.specs.Texts.{as_text, params_text, enter_text, short_text}
 use Rattle.esc_device.specs.declared.enter.EnterDeviceControlMode.{EnterDeviceControlMode}
 use Rattle.esc_device.specs.declared.short.ShortDeviceControl.{ShortDeviceControl as Short}
+use Rattle.esc_values.specs.Clear.{string_terminator}
 
 -- no private prefix, or one
 abbrev pub IsMark : List ℕ → Type 0
@@ -40,7 +41,8 @@ string_events hook d = ((hook ∷ map DcsPut d) ++ DcsUnhook ∷ []) ++ EscDispa
 -- a mode's header, this data and the string terminator say the header's event, the data byte by
 -- byte, and the end
 abbrev pub EnterSays : {A : Type 0} → EnterDeviceControlMode A → List ℕ → Type 0
-EnterSays e d = Says ((enter_text e ++ as_text d) ++ 0x1b ∷ 0x5c ∷ []) (string_events (hook_of e) d)
+EnterSays e d =
+    Says ((enter_text e ++ as_text d) ++ string_terminator) (string_events (hook_of e) d)
 
 abbrev pub ShortSays : {A : Type 0} → Short A → Type 0
 ShortSays s =
@@ -50,11 +52,11 @@ ShortSays s =
 -- data, which mean the image
 abbrev pub SixelSays : {A : Type 0} → Sixel A → Type 0
 SixelSays {A = A} s = (ps : List ℤ) × (d : List ℕ)
-    × Says (sixel_text s ++ 0x1b ∷ 0x5c ∷ []) (string_events (DcsHook 0x71 ps [] false) d)
+    × Says (sixel_text s ++ string_terminator) (string_events (DcsHook 0x71 ps [] false) d)
     × (sixel_of {A = A} ps (items d) ≡ s)
 
 -- a query and the string terminator say a header of `+` and `q`, and data, which mean the names
 abbrev pub QuerySays : List (List ℕ) → Type 0
 QuerySays ns =
-    Says (query_text ns ++ 0x1b ∷ 0x5c ∷ []) (string_events (DcsHook 0x71 [] (0x2b ∷ []) false)
+    Says (query_text ns ++ string_terminator) (string_events (DcsHook 0x71 [] (0x2b ∷ []) false)
     (names_text ns)) × (names_of (names_text ns) ≡ ns)

@@ -10,8 +10,8 @@ use Rattle.esc_frame.specs.Machine.Moves.{after_all, events_all}
 
 -- The events of a stream, where of each string no more is kept than the limit: of a longer one only
 -- the controls in its opener are emitted. The laws `events_of_the_cut_within` and
--- `events_once_within` fix it: they are those that the stream's one cut emits, and no others. Above
--- this crate `heapless_parser` alone opens its body, which takes byte after byte as the code does.
+-- `events_once_within` fix it: they are those that the stream's one cut emits, and no others. The
+-- body takes byte after byte as the code does.
 unfoldable pub events_within : Option ℕ → List ℕ → List Event
 events_within limit s = events_all limit Ground s
 
@@ -44,7 +44,8 @@ IsUnfinished s u =
     IsAfterFinished s u
     × ((u ≡ []) ⊎ ((g : Segment) × IsCut u (g ∷ []) × (ends_itself g ≡ false)))
 
--- of the first n bytes that follow s, all but the last add no event and leave a segment unfinished
+-- each of the first n bytes that follow s but the last adds no event, and leaves a segment
+-- unfinished
 abbrev pub IsQuietWithin : Option ℕ → List ℕ → List ℕ → ℕ → Type 0
 IsQuietWithin limit s b n = (k : ℕ) → 0 < k → k < n → (added_within limit s (take k b) ≡ [])
     × (IsAtGround (s ++ take k b) → ⊥)

@@ -5,7 +5,7 @@
 ghost use Rattle.std.specs.Prelude.{◌≡◌, ◌++◌, ◌&&◌, ℕ, List, Option, [], ◌∷◌, true, false};
 ghost use Rattle.std.specs.Char.{encode_utf8};
 ghost use Rattle.std.specs.List.{list_any};
-ghost use Rattle.esc_values.specs.Clear.{is_clear, IsClearText, parts_of};
+ghost use Rattle.esc_values.specs.Clear.{is_clear, IsClearText, parts_of, string_terminator};
 ghost use Rattle.esc_frame.specs.Classes.{class_of, AllOf, is_control, is_c1, is_intermediate, is_text, is_put, in_body, ends_escape, ends_csi, opens};
 ghost use Rattle.esc_frame.specs.Bodies.{is_csi_body, is_dcs_header, kept_intermediates, has_more_intermediates};
 ghost use Rattle.esc_frame.specs.Events.{Event};
@@ -202,7 +202,7 @@ pub fn says_csi()
 #[tactic(auto, using(crate::proofs::Emits::StringsSay::says_osc))]
 pub fn says_osc()
     ensures { (t : List ℕ) → IsClearText t
-        → Says ((0x1b ∷ 0x5d ∷ t) ++ 0x1b ∷ 0x5c ∷ [])
+        → Says ((0x1b ∷ 0x5d ∷ t) ++ string_terminator)
         (OscDispatch (parts_of t) ∷ EscDispatch [] false 0x5c ∷ []) }
 {}
 
@@ -210,7 +210,7 @@ pub fn says_osc()
 #[tactic(auto, using(crate::proofs::Emits::StringsSay::says_apc))]
 pub fn says_apc()
     ensures { (t : List ℕ) → AllOf is_text t
-        → Says ((0x1b ∷ 0x5f ∷ t) ++ 0x1b ∷ 0x5c ∷ [])
+        → Says ((0x1b ∷ 0x5f ∷ t) ++ string_terminator)
         (ApcDispatch t ∷ EscDispatch [] false 0x5c ∷ []) }
 {}
 
@@ -220,7 +220,7 @@ pub fn says_apc()
 pub fn says_dcs()
     ensures { (x d : List ℕ) (f : ℕ) → AllOf in_body x → is_dcs_header x ≡ true
         → ends_csi (class_of f) ≡ true → AllOf is_put d
-        → Says ((((0x1b ∷ 0x50 ∷ []) ++ x ++ f ∷ []) ++ d) ++ 0x1b ∷ 0x5c ∷ [])
+        → Says ((((0x1b ∷ 0x50 ∷ []) ++ x ++ f ∷ []) ++ d) ++ string_terminator)
         (((hook_event x f ∷ puts d) ++ DcsUnhook ∷ []) ++ EscDispatch [] false 0x5c ∷ []) }
 {}
 

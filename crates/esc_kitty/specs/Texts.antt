@@ -124,7 +124,7 @@ frame_keys t f q = action_keys (codes "f") q (entries frame_fields f ++ sent_key
 abbrev pub compose_keys : KittyImageFrameCompose → KittyImageVerbosity → List Entry
 compose_keys f q = action_keys (codes "c") q (entries compose_fields f)
 
--- of a deletion by id or number, and of any other
+-- the keys of a deletion by id or number, and of any other
 abbrev pub named_keys : List ℕ → Option ℕ → Option ℕ → Option ℕ → KittyImageVerbosity → List Entry
 named_keys d n i p q =
     (codes "I", number_text n)

@@ -294,7 +294,7 @@ module _ (number : Look → ℕ) (same : (a b : Look) → same_look a b ≡ true
 
   -- ---- the cursor
 
-  -- what the grid shows, but for a wrap that is pending
+  -- the same rows and cursor, but for a wrap that is pending
   pub record Shows (q : Grid) (t : Bool) (z : Grid) : Type 0 where
     pub shows : contents_of z.rows ≡ contents_of q.rows
     pub row : z.cursor.row ≡ q.cursor.row

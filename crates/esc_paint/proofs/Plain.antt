@@ -155,7 +155,7 @@ module _ (f : ℕ → Look) where
         ),
       )
 
-  -- ---- what leads to it
+  -- ---- texts that lead to it
 
   rest_fits : (s : Size) (r n : ℕ) (xs : List Cell) → s.columns ≤ 65536 → r < 65536
       → n < length xs → AreDrawn xs → LookPlain f xs → length xs ≡ s.columns

@@ -61,7 +61,7 @@ audited V W o a s heard way noted = record {
   way = way;
 }
 
--- ---- what passes at once
+-- ---- segments that pass at once
 
 all_shown : (m : Option Marking) (r : Rule) (o n : Option ℕ) (gs : List Shape) → AllPass r o gs n
     → AllPass (λ b g f. shown_as m (bytes_of g) (r b g f)) o gs n
@@ -118,7 +118,7 @@ shown_passed m r x h = record {
     same None s = refl
     same (Some k) s = refl
 
--- ---- what the options say
+-- ---- the options
 
 pub judged_is : {P A : Type 0} (V : Admitter P A) (p : PolicyJudge P A) (m : Option Marking)
     (o : FilterOptions P) → GoesBy p o.by_lines o.guard o.limit o.policy → m ≡ o.show

@@ -12,7 +12,7 @@ use Rattle.line_collapse.specs.Windows.{Size}
 use Rattle.esc_sanitize.specs.Written.{OfAllWritten, closed_by, final_text, going_by, is_left_by, is_passed_by, left_text, lined_text, passed_of, passing_of, seen_by}
 use Rattle.esc_sanitize.specs.declared.options.FilterOptions.{FilterOptions}
 
--- ---- what passes
+-- ---- the filtered text
 
 module _ (A : Type 0) (k : Bool)
     (goes_on : (u : Guard) (limit : Option ℕ) (f : Value A → Bool) → AdmitsAtMost (least k) f
@@ -69,7 +69,7 @@ module _ (A : Type 0) (k : Bool)
           (seen_by V o b s) h.0 h.1),
     )
 
--- ---- what is left of lines
+-- ---- the rest of lines
 
 module _ (A : Type 0) (final : (z : Size) (s : List ℕ) → IsColorText (final_of z (values_of A s)))
     (left : (z : Size) (s : List ℕ) → IsColorText (left_of z (values_of A s))) where

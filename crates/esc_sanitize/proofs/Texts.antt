@@ -117,7 +117,7 @@ pub rows_none : (A : Type 0) (r : Option Size) → final_text A r [] ≡ []
 rows_none A None = refl
 rows_none A (Some z) = final_after_nil A z (λ x. x) refl
 
--- ---- what a part adds to what is left of lines
+-- ---- parts added to the rest of lines
 
 module _ (A : Type 0) (r : Option Size) (u b : List ℕ) where
   pub all_fed : r ≡ None → final_text A r (u ++ b) ≡ final_text A r u ++ b

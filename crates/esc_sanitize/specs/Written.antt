@@ -15,7 +15,7 @@ use Rattle.caret_notation.specs.Revealed.{revealed_as, revealed_whole_as}
 use Rattle.caret_notation.specs.declared.marking.Marking.{Marking}
 use Rattle.esc_sanitize.specs.declared.options.FilterOptions.{FilterOptions}
 
--- ---- what goes to the filter
+-- ---- the text for the filter
 
 -- the text of the decoded stream: itself, or, if bytes that do not pass are shown, its visible form
 abbrev pub revealed_by : {P A : Type 0} → Admitter P A → FilterOptions P → Option Marking → List ℕ
@@ -34,7 +34,7 @@ abbrev pub seen_by : {P A : Type 0} → Admitter P A → FilterOptions P → Boo
 seen_by V o true s = revealed_whole_by V o o.show (decoded_stream o.encoding s)
 seen_by V o false s = revealed_by V o o.show (decoded_stream o.encoding s)
 
--- ---- what passes
+-- ---- the filtered text
 
 -- The lines that are filtered: those of the stream, of which, where r, each but a blank one begins
 -- with the renditions that the lines before it leave on, as they are written.
@@ -76,7 +76,7 @@ passing_of V o s = opened_of V o (decoded_stream o.encoding s)
 abbrev pub passed_of : {P A : Type 0} → Admitter P A → FilterOptions P → List ℕ → List ℕ
 passed_of V o s = closed_of V o (decoded_stream o.encoding s)
 
--- ---- what is left of the lines of a text
+-- ---- the rest of the lines of a text
 
 -- the final rows of a text that goes on, if rows of a screen may be written again
 abbrev pub final_text : Type 0 → Option Size → List ℕ → List ℕ
@@ -93,7 +93,7 @@ abbrev pub is_left_by : Type 0 → Option Size → Bool → List ℕ → List �
 is_left_by A r true u t = t ≡ left_text A r u
 is_left_by A r false u t = t ≡ final_text A r u
 
--- ---- what is written
+-- ---- the written text
 
 -- the text t is written of the stream s, which has ended or goes on: what is left of the lines of
 -- what passes of what it becomes, or of what is revealed of that
@@ -111,7 +111,7 @@ going_of {A = A} V o s = final_text A o.window (passing_of V o s)
 abbrev pub text_of : {P A : Type 0} → Admitter P A → FilterOptions P → List ℕ → List ℕ
 text_of {A = A} V o s = left_text A o.window (passed_of V o s)
 
--- ---- what it is made of
+-- ---- its parts
 
 -- this holds of the text of each stream that goes on or has ended, and of each text that is
 -- written of one

@@ -154,7 +154,7 @@ whole_filled x zero r v = refl
 whole_filled x (suc n) r v =
     (r, subst (λ b. GoOn b (replicate n x)) (sym v) (whole_filled x n r v))
 
--- ---- what writes cells
+-- ---- changes of cells
 
 pub whole_put : (n l c : ℕ) (xs : List Cell) → IsWhole xs → IsWhole (cells_with n l c xs)
 whole_put n l c xs h =

@@ -61,7 +61,7 @@ one_broken (a ∷ b ∷ s) l low high second = (
       (no_second (is_from 0xe0 0xf4 a) (is_second a b) second),
 )
 
--- ---- of two bytes
+-- ---- two bytes
 
 pub two_broken : (s : List ℕ) → 1 < length s → 0xc2 ≤ get_or s 0 0 → get_or s 0 0 ≤ 0xdf
     → is_from 0x80 0xbf (get_or s 1 0) ≡ false
@@ -123,7 +123,7 @@ two_control (a ∷ []) l tail is raw = absurd (omega arith)
 two_control (a ∷ b ∷ s) l tail is raw =
     (raw_from b (tail_low b tail) raw, ap (λ x. x ∷ b ∷ []) is, omega arith)
 
--- ---- of three
+-- ---- three
 
 pub two_pending : (s : List ℕ) → length s ≡ 2 → 0xe0 ≤ get_or s 0 0 → get_or s 0 0 ≤ 0xf4
     → is_second (get_or s 0 0) (get_or s 1 0) ≡ true
@@ -168,7 +168,7 @@ three_whole (a ∷ b ∷ c ∷ s) l low high second tail = (
   refl,
 )
 
--- ---- of four
+-- ---- four
 
 module _ (a b c : ℕ) (low : 0xf0 ≤ a) (high : a ≤ 0xf4) (second : is_second a b ≡ true)
     (third : is_from 0x80 0xbf c ≡ true) where

@@ -7,6 +7,7 @@ use Rattle.std.specs.Fmt.{decimal}
 use Rattle.std.specs.Io.KnownBytes.{Appends}
 use Rattle.esc_style.specs.declared.look.Look.{Look}
 use Rattle.esc_sgr.specs.Sgr.{look_text}
+use Rattle.esc_values.specs.Clear.{string_terminator}
 use Rattle.unicode_visibility.specs.Characters.{is_among, is_shown}
 
 -- A character that may belong to the one before it, as in emoji: a variation selector 15 or 16, a
@@ -33,7 +34,7 @@ id_text (Some i) = codes "id=" ++ i
 -- the beginning of a link with an id, or without one, and an address; with neither, the end of
 -- one (OSC 8)
 abbrev pub lead_text : Option (List ℕ) → List ℕ → List ℕ
-lead_text i a = 0x1b ∷ codes "]8;" ++ (id_text i ++ (0x3b ∷ a ++ 0x1b ∷ 0x5c ∷ []))
+lead_text i a = 0x1b ∷ codes "]8;" ++ (id_text i ++ (0x3b ∷ a ++ string_terminator))
 
 -- A part of the text: a character, a number in decimal, the end of a line, what makes a look, or
 -- what begins a link or ends one.

@@ -56,7 +56,7 @@ KeepsFunction takes p f q = TakesAll p.state f q.state
     (off_from (size_of p.state.screen) (grid_of p.state.screen)
     (function_steps (known_in p.state) p.state.screen.cursor f))) q.rows
 
--- of a control sequence
+-- the same for a control sequence
 abbrev pub KeepsSequence : {R A : Type 0} → (R → Row → R → Type 0) → Keeping R A → CsiValue
     → Keeping R A → Type 0
 KeepsSequence takes p c q = TakesSequence p.state c q.state

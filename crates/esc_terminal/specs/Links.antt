@@ -123,7 +123,7 @@ link_number n ps = if nat_lt n most_looks
     then Some (get_or ps (n - most_looks) (linked_of 0 0)).link
     else None
 
--- ---- what is known
+-- ---- the knowledge of a screen
 
 -- the looks, the links, and the looks that lead somewhere, which the cells of a screen have the
 -- numbers of

@@ -49,7 +49,10 @@ semicolon_list (p ∷ ps) = p ++ separated_parts ps
 abbrev pub AreTextParts : List (List ℕ) → Type 0
 AreTextParts ps = AreClearParts ps × (ps ≢ [] ∷ [])
 
--- a text between the introducer of an operating system command, `ESC ]`, and the string terminator,
--- `ESC \`
+-- the string terminator, ST: `ESC \`
+abbrev pub string_terminator : List ℕ
+string_terminator = 0x1b ∷ 0x5c ∷ []
+
+-- a text between the introducer of an operating system command, `ESC ]`, and the string terminator
 abbrev pub framed_text : List ℕ → List ℕ
-framed_text t = 0x1b ∷ 0x5d ∷ (t ++ 0x1b ∷ 0x5c ∷ [])
+framed_text t = 0x1b ∷ 0x5d ∷ (t ++ string_terminator)

@@ -7,6 +7,7 @@ ghost use Rattle.esc_actions.specs.Values.{value_of};
 ghost use Rattle.esc_actions.specs.Writable.{IsHandedOut, IsWritable};
 ghost use Rattle.escape_stream.specs.Asked.{has_own_text};
 ghost use Rattle.esc_parse.specs.Firsts.{first};
+ghost use Rattle.esc_values.specs.Clear.{string_terminator};
 ghost use Rattle.fallible_alloc.specs.Refusals.{Refused};
 
 use esc_actions::exceptions::is_exception;
@@ -63,7 +64,8 @@ fn first_meant<A: Allocator + Copy>(
 
 // Returns the text of the action with a string terminator after it.
 fn terminated<A: Allocator>(alloc: A, action: &Action<A>) -> Result<Text<A>, AllocError>
-    ensures ok { IfOk result (λ t. t ≡ text_after false (value_of action.now) ++ 0x1b ∷ 0x5c ∷ []) }
+    ensures ok
+        { IfOk result (λ t. t ≡ text_after false (value_of action.now) ++ string_terminator) }
     ensures refused { has_text (value_of action.now) ≡ true → OnErr result (Refused A) }
 {
     let mut text = Text::new(alloc);

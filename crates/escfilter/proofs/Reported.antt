@@ -83,7 +83,7 @@ title_here o j t n xs i x h few here rest out name =
     else Some (value_of x)) out in
     name ∙ ap (λ v. title_or t v) (sym first)
 
--- ---- what entries are called
+-- ---- names of entries
 
 item_of : (made : Written) (g : Shape) (gs : List Shape) → IsOf (as_entry made) g gs
     → IsItem made.segment g (joined_bytes gs)

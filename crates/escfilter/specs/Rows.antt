@@ -43,7 +43,7 @@ is_told e = not (is_respelled e.fate)
 abbrev pub entries_with_row : List Entry → List Entry
 entries_with_row es = filter is_told es
 
--- ---- what they are called
+-- ---- names
 
 -- something is written of the value
 abbrev pub writes : FilterOptions Choice → Value Global → Bool

@@ -40,7 +40,7 @@ last_short : (l : ℕ) (gs : List Segment) (g : Segment) → AreShort l (gs ++ g
 last_short l [] g h = h.0
 last_short l (k ∷ gs) g h = last_short l gs g h.1
 
--- ---- what is kept
+-- ---- the kept bytes
 
 module _ (p : EscParser) (memory more : List ℕ) where
   abbrev all : List ℕ

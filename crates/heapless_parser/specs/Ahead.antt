@@ -121,7 +121,7 @@ pub record GivesQueued (parser : Changed EscParser) (event : Changed EscEvent)
       → KeptIn parser.exit.now memory u
   -- the parser has failed if it had
   pub failed : parser.exit.now.has_failed ≡ parser.entry.now.has_failed
-  -- what is handed out is an event, and no run
+  -- if an event is handed out, it is one of a parser that has not failed, and no run
   pub some : is_given ≡ true → (event.exit.now.kind ≢ NONE) × (event.exit.now.kind < FAILED)
       × (is_run event.exit.now.kind ≡ false)
   -- the event has the counts and the text that it had

@@ -12,7 +12,7 @@ abbrev pub most_kept : Segment → ℕ
 most_kept (CutDcs o x) = header_count (without_noise x)
 most_kept g = count_of g
 
--- of each of these segments at most n bytes are kept
+-- at most `limit` bytes of each of these segments are kept
 abbrev pub AreShort : ℕ → List Segment → Type 0
 AreShort limit [] = Unit {0}
 AreShort limit (g ∷ gs) = (most_kept g ≤ limit) × AreShort limit gs

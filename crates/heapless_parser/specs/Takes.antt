@@ -214,7 +214,7 @@ pub record GivesPart (parser : Changed EscParser) (memory out : Changed (List �
       → Gives parser.entry.now parser.exit.now event.exit.now out.exit.now memory.entry.now
       memory.exit.now (take taken bytes)
 
--- ---- what the event is then
+-- ---- the event
 
 -- The event is as before but for its kind and its byte.
 abbrev pub IsSingleChange : EscEvent → EscEvent → Type 0

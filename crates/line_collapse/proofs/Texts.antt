@@ -21,7 +21,7 @@ use Rattle.screen_lines.proofs.Tokens.{color_rows}
 use Rattle.line_collapse.specs.Streams.{final_of, final_out, is_selection, left_of, left_rows, open_of, rows_left, selects, shown_by_all}
 use Rattle.line_collapse.specs.Windows.{Size, screen_of}
 
--- ---- of any stream
+-- ---- any stream
 
 pub final_color : {A : Type 0} (z : Size) (vs : List (Value A)) → IsOfTokens true (final_of z vs)
 final_color z vs = color_rows (first_out z.characters)
@@ -32,7 +32,7 @@ left_color z vs =
     more_parts true (final_of z vs) (open_of z vs) (final_color z vs)
     (color_rows (emptied_out (final_out z vs)) (left_rows (shown_by_all z vs)) (no_parts true))
 
--- ---- of one in which nothing selects a look or a link
+-- ---- a stream in which nothing selects a look or a link
 
 abbrev IsPlainRow : Row → Type 0
 IsPlainRow r = r.1 ≡ first_known

@@ -69,7 +69,7 @@ left_of z vs = final_of z vs ++ open_of z vs
 abbrev pub values_of : (A : Type 0) → List ℕ → List (Value A)
 values_of A s = terminal_values A s
 
--- ---- what selects
+-- ---- selections
 
 abbrev pub is_selection : Function → Bool
 is_selection (renditions rs) = true

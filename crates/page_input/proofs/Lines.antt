@@ -72,7 +72,7 @@ first_taken (suc n) end at s want l f h =
     ∙ append_assoc (take end s) (take (at + 1) t) (first_lines n (drop (at + 1) t))
     ∙ ap (λ x. take end s ++ x) (sym g) ∙ h
 
--- ---- of a stream that another reader reads
+-- ---- a stream that another reader reads
 
 nothing_first : (n : ℕ) → first_lines n [] ≡ []
 nothing_first zero = refl

@@ -27,7 +27,7 @@ AreBare ps = list_all (fits false) ps ≡ true
 bare_both : (ps qs : List Part) → AreBare ps → AreBare qs → AreBare (ps ++ qs)
 bare_both ps qs h k = list_all-append (fits false) ps qs ∙ rw (h, k) refl
 
--- ---- what is known
+-- ---- the knowledge of a screen
 
 plain_at : (n : ℕ) → get_or (plain_look ∷ []) n plain_look ≡ plain_look
 plain_at zero = refl

@@ -2,7 +2,7 @@
 use Rattle.std.specs.Prelude.{ℕ, ◌+◌, ◌-◌, ◌==◌, nat_le, nat_lt, Bool, true, false, not, ◌&&◌, if◌then◌else◌, List, [], ◌∷◌, ◌++◌, codes, length, Option, None, Some}
 use Rattle.std.specs.Char.{encode_utf8}
 use Rattle.std.specs.List.{list_all}
-use Rattle.esc_values.specs.Clear.{is_clear}
+use Rattle.esc_values.specs.Clear.{is_clear, string_terminator}
 use Rattle.esc_filter.specs.declared.unicode.Unicode.{Unicode}
 use Rattle.esc_filter.specs.declared.unicode.Unicode.TheVariants.{Drop, Join, Keep, Show}
 use Rattle.esc_links.specs.Hyperlinks.{value_at}
@@ -78,7 +78,7 @@ id_text (Some i) = codes "id=" ++ i
 -- the begin of a link with an id, or without one, and an address; with neither, the end of one (OSC
 -- 8)
 abbrev pub lead_text : Option (List ℕ) → List ℕ → List ℕ
-lead_text i a = 0x1b ∷ codes "]8;" ++ (id_text i ++ (0x3b ∷ a ++ 0x1b ∷ 0x5c ∷ []))
+lead_text i a = 0x1b ∷ codes "]8;" ++ (id_text i ++ (0x3b ∷ a ++ string_terminator))
 
 -- the id of a link
 abbrev pub id_of : Target → Option (List ℕ)

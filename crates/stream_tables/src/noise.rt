@@ -6,7 +6,7 @@ use std::alloc::Global;
 
 // These parts make streams, beside bytes by themselves, with `|` between: openers, ends, and the
 // content of strings and sequences. They are one text, since a table of so many is dear to prove.
-const PIECES: &str = "\
+const PARTS: &str = "\
 \\x1b|\\x1b[|\\x1b]|\\x1bP|\\x1b_|\\x1bX|\\x1b^|\\x9b|\\x9d|\\x90|\\x9f|\\x98|\\x9e|\
 \\xc2\\x9b|\\xc2\\x9d|\\xc2\\x90|\\xc2\\x9f|\\xc2\\x98|\\x9c|\\xc2\\x9c|\\x1b\\\\|\\x07|\
 \\x18|\\x1a|\\x85|\\xc2\\x85|\\xc2|\\x00|\\x0a|\\x7f|\\xff|\\xa0| |!|\"|#|$|(|/|0|1|12|\
@@ -17,7 +17,7 @@ Ga=T,f=100;YQ==|a=d,d=A|text|\\\\|]|[|P|\\xc3\\xa9|\\xe2\\x82\\xac|\\xe2\\x82|\
 \\xed\\xa0\\x80|\\xf0\\x9f\\x98\\x80|\\xf0\\x9f\\x98|\\xf4\\x90|\\xc1\\xbf";
 
 // The number of the last chunk.
-const LAST_PIECE: u8 = 95;
+const LAST_PART: u8 = 95;
 
 // Says how many parts a stream has at most.
 const MOST_PARTS: u8 = 48;
@@ -29,7 +29,7 @@ pub fn make_stream(alloc: Global, random: &mut Random, stream: &mut Vec<u8>) -> 
         if random.up_to(4) < raw {
             stream.push(random.byte())?;
         } else {
-            add_input_chunk(alloc, random.up_to(LAST_PIECE), stream)?;
+            add_input_chunk(alloc, random.up_to(LAST_PART), stream)?;
         }
     }
     Ok(())
@@ -37,7 +37,7 @@ pub fn make_stream(alloc: Global, random: &mut Random, stream: &mut Vec<u8>) -> 
 
 // Adds the chunk of this number.
 fn add_input_chunk(alloc: Global, number: usize, stream: &mut Vec<u8>) -> Result<(), Fault> {
-    let text = PIECES.split('|').nth(number).unwrap_or("");
+    let text = PARTS.split('|').nth(number).unwrap_or("");
     let input_chunk = unescaped(alloc, text)?;
     Ok(stream.extend_from_slice(&input_chunk)?)
 }

@@ -111,7 +111,7 @@ pub digits_forms : (x ys : List ℕ) → 0 < length ys → list_all is_digit ys 
     → form_from form.Empty (x ++ ys) ≡ next_form (form_from form.Empty x) 0x30
 digits_forms x ys l h = form_append form.Empty x ys ∙ digits_form (form_from form.Empty x) ys l h
 
--- ---- of the bytes ahead
+-- ---- the bytes ahead
 
 pub digits_first : (rest : List ℕ) → 0 < length rest → 0x30 ≤ get_or rest 0 0
     → get_or rest 0 0 ≤ 0x39 → list_all is_digit (take 1 rest) ≡ true

@@ -388,7 +388,7 @@ character_still limit rest n c l h = λ k a b.
     subst (Still limit Ground) (take-take k n rest (omega arith))
     (sequence_still limit (take n rest) k h.0 a (omega arith))
 
--- ---- of the stream
+-- ---- the stream
 
 pub quiet_all : (limit : Option ℕ) (s b : List ℕ) (n : ℕ) → IsStill limit (after_all Ground s) b n
     → IsQuietWithin limit s b n

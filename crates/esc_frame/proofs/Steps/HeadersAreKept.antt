@@ -84,7 +84,7 @@ pub others_same : (x : List ℕ) (b : ℕ) → is_dcs_parameter b ≡ true
 others_same x b h = sym (filter-append (λ b. not (is_dcs_parameter b)) x (b ∷ [])
     ∙ rw h (append-nil (others_of x)))
 
--- of a header that has its form
+-- the same for a header that has its form
 pub header_kept : (x : List ℕ) → is_dcs_header x ≡ true
     → (parameters_of x ≡ take_while is_dcs_parameter (after_private_prefix x))
     × (others_of x ≡ dcs_intermediates x)

@@ -65,7 +65,7 @@ Advances is_ready result rest before machine old new =
     IfOk result (λ n. (0 < n) × (n ≤ length rest) × (is_ready old → is_ready new)
     × (machine.limit ≡ before.limit))
 
--- of the bytes that it took, all but the last emit nothing and leave a segment unfinished
+-- all bytes that it took but the last emit nothing and leave a segment unfinished
 abbrev pub Quietly : {E : Type 0} → Option ℕ → Result ℕ E → Unfinished → List ℕ → Type 0
 Quietly limit result u rest = IfOk result (λ n. IsStill limit u rest n)
 

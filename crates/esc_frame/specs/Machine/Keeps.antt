@@ -75,7 +75,7 @@ abbrev pub form_by : (ℕ → Bool) → Form → List ℕ → Form
 form_by p f [] = f
 form_by p f (b ∷ bs) = form_by p (next_form_by p f b) bs
 
--- of a CSI
+-- the form of a CSI
 abbrev pub next_form : Form → ℕ → Form
 next_form f b = next_form_by is_csi_parameter f b
 

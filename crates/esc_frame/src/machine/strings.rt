@@ -2,7 +2,7 @@
 //! device control strings whose header has another form.
 #![tactic(auto)]
 
-ghost use Rattle.std.specs.Prelude.{◌≡◌, ◌⊎◌, ◌++◌, [], cond, ◌<◌, Bool, true, false, length, OnOk};
+ghost use Rattle.std.specs.Prelude.{◌≡◌, ◌⊎◌, ◌++◌, [], if◌then◌else◌, ◌<◌, Bool, true, false, length, OnOk};
 ghost use Rattle.esc_frame.specs.Classes.{class_of, is_breaker};
 ghost use Rattle.esc_frame.specs.Machine.Keeping.{Holding, KeepingText, KeepingApc, FreshApc, AnyApc, InDcsIgnore, InIgnoredString};
 ghost use Rattle.esc_frame.specs.Machine.Allowed.{KeptApc, KeptSegment, KeptText, NewApc};
@@ -58,7 +58,7 @@ impl<K: TextRoom, A: Allocator> Machine<K, A> {
 
     /// Takes a byte of an ignored string: only a breaker acts.
     pub fn in_ignored<V: EventSink>(&mut self, b: u8, class: Class, actor: &mut V) -> Result<()>
-        requires { MayEmit V.EventSink (cond (is_breaker class) (ground_move b class).1 [])
+        requires { MayEmit V.EventSink (if is_breaker class then (ground_move b class).1 else [])
             actor.old }
         ensures ignored { InIgnoredString (λ limit u.
             Makes K.TextRoom V.EventSink limit true result (move limit u b class) self actor) }

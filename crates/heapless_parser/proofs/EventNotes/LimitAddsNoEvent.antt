@@ -43,7 +43,7 @@ fewer_if : (a b : Bool) (es : List Event) → (a ≡ true → b ≡ true)
 fewer_if false b es h = omega arith
 fewer_if true b es h = rw (h refl) (omega arith)
 
--- ---- of a byte
+-- ---- one byte
 
 module _ (limit : ℕ) where
   read_at_all : (x : List ℕ) → is_read (Some limit) x ≡ true → is_read None x ≡ true
@@ -162,7 +162,7 @@ module _ (limit : ℕ) where
   fewer_by (InIgnored k o d) b c = fewer_inside (InIgnored k o d) b c
   fewer_by (InOsc o ps) b c = fewer_inside (InOsc o ps) b c
 
-  -- ---- of many
+  -- ---- many
 
   pub fewer_all : (u : Unfinished) (x : List ℕ)
       → length (events_all (Some limit) u x) ≤ length (events_all None u x)

@@ -31,7 +31,7 @@ use Rattle.heapless_parser.specs.States.{KeptIn, FirstIn}
 use Rattle.heapless_parser.specs.Emitted.{sent_events, text_of}
 use Rattle.heapless_parser.proofs.KeptState.UnfinishedByState.{ground_only}
 
--- ---- what a parser keeps of nothing, and of an ESC alone
+-- ---- a parser that keeps nothing, or an ESC alone
 
 pub in_ground : (q : EscParser) (memory : List ℕ) → q.state ≡ 0 → q.pending ≡ 0
     → KeptIn q memory Ground

@@ -43,7 +43,7 @@ apc_number n h = grind (arith, nat_tests)
 pub formed_number : (n : ℕ) → n ≢ 3 → is_formed (form_numbered n) ≡ true
 formed_number n h = grind (arith, nat_tests)
 
--- ---- what is unfinished, by the number of the state
+-- ---- the unfinished segment, by the number of the state
 
 module _ (p : EscParser) (memory : List ℕ) where
   osc_only : p.state ≡ 3 → (u : Unfinished) → KeptIn p memory u → is_osc u ≡ true
@@ -135,7 +135,7 @@ module _ (p : EscParser) (memory : List ℕ) (four : p.state ≡ 4) (over : p.is
   header_fewer =
       in_header_only p memory (λ v. IsLimited (length memory) v (b ∷ [])) four header_in
 
--- ---- what is noted
+-- ---- notes
 
 quiet_none : (hands : Event → Bool) (e : EscEvent) (out : List ℕ) (k v : ℕ)
     → ((b : ℕ) → hands (Execute b) ≡ false) → (e.kind ≡ 0) ⊎ (e.kind ≡ 3) → k ≡ 0
@@ -227,7 +227,7 @@ limited_by before p q e memory later out u x is some kept after emits quiet
     (header_fewer p memory (sym is.0 ∙ s) (sym is.3 ∙ over) (λ k. form (is.2 ∙ k))
     (get_or x 0 0) low high u kept)
 
--- ---- what is noted of it
+-- ---- notes of the kept bytes
 
 pub kept_noted : (before : Place) (q r : EscParser) (e f : EscEvent) (x memory : List ℕ)
     (u : Unfinished) → NotesLimit before q r e f x → KeptIn q memory u → KeptIn r memory u

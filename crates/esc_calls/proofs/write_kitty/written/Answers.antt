@@ -9,7 +9,7 @@ use Rattle.esc_kitty.specs.Writable.{IsWritableImage, is_kept}
 use Rattle.esc_kitty.specs.declared.image.KittyImage.{KittyImage}
 use Rattle.esc_calls.proofs.ImagesWritten.{image_written, none_writable}
 use Rattle.esc_calls.specs.ImageValues.{image_read}
-use Rattle.esc_calls.specs.Written.{string_end}
+use Rattle.esc_values.specs.Clear.{string_terminator}
 use Rattle.esc_calls.proofs.write_kitty.written.Goals as goal
 
 -- a text that is an image that has them
@@ -27,7 +27,7 @@ returns-clause-text c =
     subst (IsBack k t) body_is (c.in_ok-is_back.ensures.back.0 c.if-not-branch.false) in (
       said.0,
       image_written k t said.0 said.1 back.0 back.1,
-      c.in_ok-ended.ensures.text ∙ ap (λ x. x ++ string_end) said.2,
+      c.in_ok-ended.ensures.text ∙ ap (λ x. x ++ string_terminator) said.2,
     )
 
 pub returns-then-not-branch-clause-refused : goal.returns-then-not-branch-clause-refused

@@ -4,7 +4,7 @@ use Rattle.std.specs.Global.{Global}
 use Rattle.esc_sixel.specs.Writable.{IsWritable}
 use Rattle.esc_sixel.specs.declared.sixel.Sixel.{Sixel}
 use Rattle.esc_calls.proofs.SixelsWritten.{none_writable, sixel_written}
-use Rattle.esc_calls.specs.Written.{string_end}
+use Rattle.esc_values.specs.Clear.{string_terminator}
 use Rattle.esc_calls.specs.WrittenSixels.{HasSixel, sixel_string}
 use Rattle.esc_calls.proofs.write_sixel.written.Goals as goal
 
@@ -34,5 +34,5 @@ returns-clause-text c =
       it.0,
       it.1,
       it.2,
-      c.in_ok-ended.ensures.text ∙ ap (λ x. x ++ string_end) text_is,
+      c.in_ok-ended.ensures.text ∙ ap (λ x. x ++ string_terminator) text_is,
     )

@@ -5,7 +5,7 @@ use Rattle.flat_values.specs.FoundNames.{HasNames}
 use Rattle.xtgettcap.specs.Names.{AreWritable, names_text, query_text}
 use Rattle.esc_calls.proofs.QueriesWritten.{none_asked, query_written}
 use Rattle.esc_calls.specs.QueryValues.{query_table}
-use Rattle.esc_calls.specs.Written.{string_end}
+use Rattle.esc_values.specs.Clear.{string_terminator}
 use Rattle.esc_calls.proofs.write_tcap.written.Goals as goal
 
 pub returns-clause-text : goal.returns-clause-text
@@ -22,7 +22,7 @@ returns-clause-text c =
     (c.in_ok-is_back.ensures.back.0 c.if-not-branch.false) in (
       names,
       query_written t names has back,
-      c.in_ok-ended.ensures.text ∙ ap (λ x. x ++ string_end) text_is,
+      c.in_ok-ended.ensures.text ∙ ap (λ x. x ++ string_terminator) text_is,
     )
 
 pub returns-then-not-branch-clause-refused : goal.returns-then-not-branch-clause-refused

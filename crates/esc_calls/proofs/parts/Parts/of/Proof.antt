@@ -1,4 +1,4 @@
--- `of` takes the box apart, and the parts have its ownership.
+-- The function `of` takes the box apart, and the parts have its ownership.
 use mathlib.Core.Path.{◌≡◌, refl, sym, subst, ap, ◌∙◌}
 use mathlib.Core.List.{List, [], ◌∷◌, ◌++◌}
 use seplogic.Ra.Ura.{Ura}
