@@ -93,11 +93,7 @@ impl<A: Allocator> Kept<A> {
             (nat_le (length r) limit ≡ false)
             (λ p. (p.now ≡ r) × (nat_le (length r) limit ≡ true)) }
     {
-        if self.is_over {
-            None
-        } else {
-            Some(&self.span)
-        }
+        if self.is_over { None } else { Some(&self.span) }
     }
 
     /// Shows the part of the span that was not shown yet, in this way. Nothing is kept then.

@@ -25,8 +25,8 @@ mod text;
 mod visible;
 
 pub use laws::{
-    escaped_reads_back, kept_is_written, spans_are_all, spans_are_streams, spans_end_at_ground,
-    read_back, shown_is_written, shows_characters, unmarked_reads_back,
+    escaped_reads_back, kept_is_written, read_back, shown_is_written, shows_characters,
+    spans_are_all, spans_are_streams, spans_end_at_ground, unmarked_reads_back,
 };
 pub use marking::Marking;
 pub use reveal::Reveal;

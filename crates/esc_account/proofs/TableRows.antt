@@ -138,7 +138,7 @@ module _ {N A : Type 0} (same : N → N → Bool) (eq : IsEquivalence same) (t :
           → (b ≡ true → IsOther t.rows.items t.last e.entry.fate) → after_these es e ≡ e
       by true is other =
           keeps_name same t.rows.items t.last (last_of None (joined_entries es)) e has.last
-              (other refl)
+          (other refl)
       by false is other =
           no_end same t.rows.items t.last (last_of None (joined_entries es)) e (sym is)
 
@@ -156,7 +156,7 @@ module _ {N A : Type 0} (same : N → N → Bool) (eq : IsEquivalence same) (t :
   added_rows rows at n m u h is last en em = record {
     rows =
         one_goes same eq (joined_entries es) t.rows.items rows u.rows.items at
-            (after_these es e) n m
+        (after_these es e) n m
         has.rows h is en em
         ∙ ap (rows_of same) (sym (joined_more None es e));
     last = λ d k.

@@ -69,7 +69,7 @@ module _ {A : Type 0} (by_lines : Bool) (u : Guard) (admits : Value A → Bool) 
       ≡ fate_of by_lines u admits b k bytes vs
   fate_is bytes vs =
       rw (own_is (facts_of_none b) vs, all_is (facts_of_none b) vs, some_is (facts_of_none b) vs)
-          refl
+      refl
 
   abbrev verdict : Weighed → List ℕ → List (Value A) → Verdict
   verdict w bytes vs = record { fate = fate_by w k bytes (list_text vs); before = w.last }

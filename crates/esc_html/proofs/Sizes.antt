@@ -256,7 +256,7 @@ marks_size h i u a b c d e f rest =
 
 colors_size : (a b c : Color)
     → names_size
-        (values_of (foreground_class a ∷ background_class b ∷ underline_color_class c ∷ []))
+    (values_of (foreground_class a ∷ background_class b ∷ underline_color_class c ∷ []))
     + all_declared_size (values_of (foreground_style a ∷ background_style b
     ∷ underline_color_style c ∷ [])) ≤ 76
 colors_size a b c =

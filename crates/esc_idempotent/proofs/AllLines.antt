@@ -245,7 +245,7 @@ module _ {A : Type 0} (u : Guard) (f : Value A → Bool) (text : AdmitsInstead u
 
     pub resumes_nothing : (k : Bool)
         → resumed_stream k u again f (closed_by_lines_as u limit f s)
-            ≡ closed_by_lines_as u limit f s
+        ≡ closed_by_lines_as u limit f s
     resumes_nothing k =
         let (a, b, c) = quiet_lines u again f k [] ks refl (at_none u again f k) each.1 in
         ap (resumed_stream k u again f) p.whole

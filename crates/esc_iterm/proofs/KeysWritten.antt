@@ -62,9 +62,9 @@ pub text_more : {X : Type 0} (f : X → Entry) (keys : List X) (i : ℕ) (d : X)
 text_more f keys i d first lt is =
     let k = f (get_or keys i d) in
     ap (λ b. semicolon_list (key_slices (map f (take i keys)))
-        ++ parts_after b (key_slices (k ∷ []))) is
+    ++ parts_after b (key_slices (k ∷ []))) is
     ∙ sym (ap semicolon_list (slices_more f keys i d lt) ∙ text_push
-        (key_slices (map f (take i keys))) k.0
+    (key_slices (map f (take i keys))) k.0
     k.1)
 
 pub first_more : {X : Type 0} (f : X → Entry) (keys : List X) (i : ℕ) (d : X) (first after : Bool)

@@ -143,7 +143,7 @@ kept_back {A = A} t q h =
     transmit_back v t h refl refl refl refl in
     sends (image.TransmitData t q) (or_action (present_pairs keys)) (content_text t.content)
     (or_some (present_pairs keys))
-        (or_pairs (present_pairs keys) (written_pairs keys (kept_entries t q h)))
+    (or_pairs (present_pairs keys) (written_pairs keys (kept_entries t q h)))
     (content_kept t.content h.0)
     (or_image {A = A} (present_pairs keys) (content_text t.content)
     ∙ entries_image keys (content_text t.content)

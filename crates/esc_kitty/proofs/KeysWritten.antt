@@ -51,9 +51,9 @@ pub text_more : {X : Type 0} (f : X → Entry) (keys : List X) (i : ℕ) (d : X)
     ≡ keys_text (present_pairs (map f (take (i + 1) keys)))
 text_more f keys i d first lt is =
     ap (λ b. keys_text (present_pairs (map f (take i keys)))
-        ++ entry_text b (f (get_or keys i d))) is
+    ++ entry_text b (f (get_or keys i d))) is
     ∙ sym (ap keys_text (written_more f keys i d lt) ∙ text_push
-        (present_pairs (map f (take i keys)))
+    (present_pairs (map f (take i keys)))
     (f (get_or keys i d)).0 (f (get_or keys i d)).1)
 
 pub bare_more : {X : Type 0} (f : X → Entry) (keys : List X) (i : ℕ) (d : X) (first after : Bool)

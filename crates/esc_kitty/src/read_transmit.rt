@@ -115,8 +115,8 @@ fn read_named<A: Allocator>(
     data_offset: Option<u32>,
     payload: &[u8],
 ) -> Result<Option<KittyImageData<A>>, AllocError>
-    ensures ok
-        { IfOk result (λ o. o ≡ option_map (λ t. named_content medium t data_size data_offset)
+    ensures ok { IfOk result (λ o. o
+        ≡ option_map (λ t. named_content medium t data_size data_offset)
         (base64_text_of payload.now)) }
     ensures refused { OnErr result (Refused A) }
 {

@@ -21,8 +21,8 @@ pub(crate) fn write_transmit<A: Allocator, W: fmt::Write>(
     f: &mut fmt::Formatter<W>,
 ) -> fmt::Result
     ensures { DisplaysOnOk W.write_str_gives f.old result
-        (Some (keys_text (or_action (present_pairs (transmit_keys transmit.now verbosity))))) f.new
-        }
+        (Some (keys_text (or_action (present_pairs (transmit_keys transmit.now verbosity)))))
+        f.new }
 {
     let content = &transmit.content;
     let keys = [

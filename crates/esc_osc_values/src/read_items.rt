@@ -45,8 +45,8 @@ pub fn read_title<A: Allocator + Copy>(
 
 // Returns a part and those after it, with `;` between them.
 fn joined<A: Allocator>(alloc: A, first: &[u8], rest: &[&[u8]]) -> Result<Vec<u8, A>, AllocError>
-    ensures ok
-        { IfOk result (λ b. b.items ≡ semicolon_list (first.now ∷ map (λ p. p.now) rest.now)) }
+    ensures ok { IfOk result (λ b. b.items
+        ≡ semicolon_list (first.now ∷ map (λ p. p.now) rest.now)) }
     ensures refused { OnErr result (Refused A) }
 {
     let mut bytes = fallible_alloc::copied(alloc, first)?;

@@ -91,7 +91,7 @@ by_size : (f k : ℕ → Look) (s : Size) (g h : Grid)
     → difference f k s s g h ≡ parts_text (change_parts f k s s g h)
 by_size f k s g h =
     ap (λ t. if t then parts_text (change_parts f k s s g h) else painting_text k s h)
-        (size_same s)
+    (size_same s)
 
 -- the parts are read, and lead there
 abbrev Goes : (f k : ℕ → Look) → Size → Grid → Grid → Grid → List Part → Type 0

@@ -206,7 +206,7 @@ module _ (number : Look → ℕ) (same : (a b : Look) → same_look a b ≡ true
     ready : (p : Pen) (l : Look) (n : ℕ) (xs : List Cell) (g : Grid) → n < s.columns
         → HasIn above below p.look p.here n xs g
         → HasIn above below l true n xs
-            (run (run g (place_change p.here r n)) (look_change p.look l))
+        (run (run g (place_change p.here r n)) (look_change p.look l))
     ready p l n xs g less h =
         has_looked p.look l true n xs (run g (place_change p.here r n))
         (has_placed (number p.look) (number (erased_look p.look)) p.here n xs g less h)
@@ -214,12 +214,12 @@ module _ (number : Look → ℕ) (same : (a b : Look) → same_look a b ≡ true
     drawn_run : (n : ℕ) (p : Pen) (c : ℕ) (m : Marks) (l : Look) (g : Grid)
         → run g (drawn_parts r n p c m l)
         ≡ run (run (run (run g (place_change p.here r n)) (look_change p.look l))
-            (character c ∷ []))
+        (character c ∷ []))
         (marks_parts m)
     drawn_run n p c m l g =
         run_two g (place_change p.here r n) (look_change p.look l ++ (character c ∷ marks_parts m))
         ∙ run_two (run g (place_change p.here r n)) (look_change p.look l)
-            (character c ∷ marks_parts m)
+        (character c ∷ marks_parts m)
 
     -- a character of one column
     narrow_done : (p : Pen) (l : Look) (c : ℕ) (m : Marks) (done ys : List Cell) (x : Cell)

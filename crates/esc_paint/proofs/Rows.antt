@@ -272,7 +272,7 @@ wide_direct s c g ready direct less =
     ∙ either (nat_lt (g.cursor.column + 1) s.columns) g.modes.wraps more in
     let wrapped : wrapped_wide s g ≡ g =
     ap (λ b. if b then wrapped_grid s g else next_line s (row_gone_on g)) more ∙ not_wrapped s g
-        ready in
+    ready in
     let roomy : grid_with_room s 2 g ≡ g =
     ap (λ b. if b then in_row (inserted_cells g.cursor.erased 2 g.cursor.column s.columns) g else g)
     (inserts_not g.modes.inserts (not (draws g.cursor)) direct) in

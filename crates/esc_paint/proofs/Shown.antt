@@ -74,7 +74,7 @@ paints_any A means = λ f s t g old h.
     let shown = ap (shown_after {A = A} s t) meant ∙ all_shown A s t ps number fits in
     let z = grid_from s t.grid (map (part_step number) ps) in
     let is : (shown_after s t (values_of A (painting_text f s g))).grid
-        ≡ z = ap (λ x. x.grid) shown in
+    ≡ z = ap (λ x. x.grid) shown in
     let e = paints number same f s refl t.grid g old.rows h.whole h.drawn h.sound.rows
     h.sound.cursor in
     subst (ShowsSame s g) (sym is) (record {

@@ -20,7 +20,7 @@ any_blank (suc j) = refl
 
 put_first : (n j c : ℕ) (p : List Cell) → length p ≡ n
     → cells_with n 0 c (p ++ replicate (suc j) (blank 0))
-        ≡ p ++ plain_cell c ∷ replicate j (blank 0)
+    ≡ p ++ plain_cell c ∷ replicate j (blank 0)
 put_first n j c p e =
     let b = blank 0 in
     let xs = p ++ b ∷ replicate j b in

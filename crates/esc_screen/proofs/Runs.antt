@@ -107,7 +107,7 @@ run_from s c (d ∷ ds) g ready direct fits =
     ∙ run_from s d ds h ready direct less
     ∙ ap (λ rs. grid_past s (length cs) (record h { rows = rs }))
     (row_twice g.rows g.cursor.row (cells_with n g.cursor.look c)
-        (put_all (n + 1) g.cursor.look cs))
+    (put_all (n + 1) g.cursor.look cs))
     ∙ ap (λ m. with_cursor (landed_cursor s.columns g.modes.wraps m g.cursor)
     (in_row (put_all n g.cursor.look (c ∷ cs)) g)) one
 

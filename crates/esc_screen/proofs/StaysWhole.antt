@@ -225,7 +225,7 @@ has_two s g h =
   where
     either : (p w : Bool) → 0 + 1 < s.columns → g.cursor.column + 1 < s.columns
         → (if p then if w then next_line s (row_gone_on g) else settled_grid g else g).cursor.column
-            + 1
+        + 1
         < s.columns
     either true true some less = some
     either true false some less = less
@@ -234,7 +234,7 @@ has_two s g h =
     by_test : (t : Bool) → 0 + 1 < s.columns
         → (t ≡ true → g.cursor.column + 1 < s.columns)
         → (if t then wrapped_grid s g else next_line s (row_gone_on g)).cursor.column + 1
-            < s.columns
+        < s.columns
     by_test true some less = either g.cursor.pending g.modes.wraps some (less refl)
     by_test false some less = some
 

@@ -103,7 +103,7 @@ run_separators p (q ∷ ps) n [] h = absurd h.1
 run_separators p (q ∷ ps) n (m ∷ ns) h =
     let more : separators (semicolon_list (q ∷ ps)) ≡ length ps = run_separators q ps m ns h.1 in
     let here : separators (p ++ 0x3b ∷ semicolon_list (q ∷ ps))
-        ≡ separators (0x3b ∷ semicolon_list (q ∷ ps)) =
+    ≡ separators (0x3b ∷ semicolon_list (q ∷ ps)) =
     passes_digits p (0x3b ∷ semicolon_list (q ∷ ps)) h.0.digits in
     here ∙ (omega (arith, more))
 
@@ -128,7 +128,7 @@ run_bytes p [] n (m ∷ ns) h = absurd h.1
 run_bytes p (q ∷ ps) n [] h = absurd h.1
 run_bytes p (q ∷ ps) n (m ∷ ns) h =
     let more : list_all is_parameter_byte (semicolon_list (q ∷ ps))
-        ≡ true = run_bytes q ps m ns h.1 in
+    ≡ true = run_bytes q ps m ns h.1 in
     list_all-append is_parameter_byte p (0x3b ∷ semicolon_list (q ∷ ps))
     ∙ rw (digit_bytes p h.0.digits) more
 

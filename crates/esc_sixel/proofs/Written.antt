@@ -324,7 +324,7 @@ content_items (SelectColorMapEntry n ∷ ds) h =
     (decimal_slice n (omega (arith, small)), tt) in
     ap (λ t. items_at Outside (t ++ content_text ds)) (select_text n)
     ∙ color_item (semicolon_list (decimal n ∷ [])) (content_text ds)
-        (run_bytes (decimal n) [] n [] slices)
+    (run_bytes (decimal n) [] n [] slices)
     (content_stops ds h.1)
     ∙ ap (λ r. OfColor (semicolon_list (decimal n ∷ [])) ∷ r) (content_items ds h.1)
 content_items (CarriageReturn ∷ ds) h =

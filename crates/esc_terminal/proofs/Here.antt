@@ -81,7 +81,7 @@ one_kept takes c p j drawn_character ready h = (
   h,
   subst (λ rs. FoldsTo takes p.rows (with_known (known_in p.state) rs) p.rows)
       (sym (none_off (size_of p.state.screen) c (grid_of p.state.screen) drawn_character ready))
-          refl,
+      refl,
 )
 
 -- a terminal that hands out rows takes characters as others do

@@ -106,7 +106,7 @@ split_joined p [] h =
     split_free 0x3b p [] [] [] (part_free p h.0) refl ∙ ap (λ t. t ∷ []) (append-nil p)
 split_joined p (q ∷ ps) h =
     split_free 0x3b p (0x3b ∷ semicolon_list (q ∷ ps)) []
-        (slice_split semi (semicolon_list (q ∷ ps)))
+    (slice_split semi (semicolon_list (q ∷ ps)))
     (part_free p h.0) refl
     ∙ ap (λ t. t ∷ slice_split semi (semicolon_list (q ∷ ps))) (append-nil p)
     ∙ ap (λ ts. p ∷ ts) (split_joined q ps h.1)

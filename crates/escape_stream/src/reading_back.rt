@@ -64,8 +64,8 @@ fn first_meant<A: Allocator + Copy>(
 
 // Returns the text of the action with a string terminator after it.
 fn terminated<A: Allocator>(alloc: A, action: &Action<A>) -> Result<Text<A>, AllocError>
-    ensures ok
-        { IfOk result (λ t. t ≡ text_after false (value_of action.now) ++ string_terminator) }
+    ensures ok { IfOk result (λ t. t
+        ≡ text_after false (value_of action.now) ++ string_terminator) }
     ensures refused { has_text (value_of action.now) ≡ true → OnErr result (Refused A) }
 {
     let mut text = Text::new(alloc);

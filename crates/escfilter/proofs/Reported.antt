@@ -38,7 +38,7 @@ pub keyed_step : (rows : List (Row Name)) (i : ℕ) (r : Row Name) → i < lengt
 keyed_step [] i r few here = absurd (omega (arith, few))
 keyed_step (k ∷ rows) zero r few here =
     ap (λ (x : Row Name).
-        if has_key (title_of x.name) then 1 + keys_count rows else keys_count rows)
+    if has_key (title_of x.name) then 1 + keys_count rows else keys_count rows)
     (sym here)
 keyed_step (k ∷ rows) (suc i) r few here = keyed_step rows i r (omega (arith, few)) here
 
@@ -157,7 +157,7 @@ key_room : (rows : List (Row Name)) (f : Fate) (n : Name) → keys_count rows �
 unfolding one_key
 key_room rows f n few none =
     by (has_key (title_of n)) (has_row are_one_name rows f n)
-        (nat_le 64 (keys_count rows)) refl refl
+    (nat_le 64 (keys_count rows)) refl refl
     refl none
   where
     by : (a b c : Bool) → has_key (title_of n) ≡ a → has_row are_one_name rows f n ≡ b
@@ -208,12 +208,12 @@ named_more o t u es n e h c add one = record {
   called = called_more o h.names es (under n e) h.called c;
   has =
       let k : under (kept_name t.rows.items e.fate n) e
-          ≡ kept_one (entries_by_row h.names) (under n e) =
+      ≡ kept_one (entries_by_row h.names) (under n e) =
       ap (λ rows. under (kept_name rows e.fate n) e) h.has.rows in
       let P : List (Named Name) → Type 0 = λ l. HasRowsOf are_one_name u l in
       subst P (sym (kept_more [] h.names (under n e)))
       (subst (λ x. HasRowsOf are_one_name u (entries_by_row h.names ++ x ∷ [])) k
-          (add (entries_by_row h.names) h.has));
+      (add (entries_by_row h.names) h.has));
   few = few_more t.rows.items u.rows.items e.fate n h.few (one (entries_by_row h.names) h.has);
 }
 
@@ -231,7 +231,7 @@ noted_so o j t u es n e h entries_with_row c all add one = record {
   all = λ asked. rw (told_more es e entries_with_row) (all _ (h.all asked));
   named = λ asked.
       rw (told_more es e entries_with_row)
-          (named_more o.filter t u _ n e (h.named asked) c add one);
+      (named_more o.filter t u _ n e (h.named asked) c add one);
 }
 
 pub noted_ok : {X E : Type 0} (r : Result X E) (o : Options) (j : Judging Choice Global)

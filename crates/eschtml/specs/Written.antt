@@ -86,13 +86,13 @@ is_kept moves v = not (disguises v) && (is_shown v || (moves && admits Screen v)
 abbrev pub going_in : Type 0 → Bool → ℕ → Bool → List ℕ → List ℕ
 going_in A shows limit moves s =
     if shows then text_without_pairs
-        (revealed_as {A = A} Reversed false limit (is_kept moves) s) else s
+    (revealed_as {A = A} Reversed false limit (is_kept moves) s) else s
 
 -- the same for one that has ended
 abbrev pub whole_in : Type 0 → Bool → ℕ → Bool → List ℕ → List ℕ
 whole_in A shows limit moves s =
     if shows then text_without_pairs
-        (revealed_whole_as {A = A} Reversed false limit (is_kept moves) s) else s
+    (revealed_whole_as {A = A} Reversed false limit (is_kept moves) s) else s
 
 -- for the text that the stream becomes by its encoding
 abbrev pub seen_by : Type 0 → Options → Bool → Bool → List ℕ → List ℕ

@@ -193,7 +193,7 @@ module _ {A : Type 0} where
       → c ≡ command_in held_reading (form_at k) (table_values t)
       → IfOk has (λ b. IsTrue b ↔ Has k t c)
       → IfOk (value_if_kept c has) (λ o. o ≡ None → (d : OperatingSystemCommand A) → IsHeld d
-          → Has k t d
+      → Has k t d
       → ⊥)
   none_kept k t c (Err e) is told = tt
   none_kept k t c (Ok true) is told = λ none d is_held it. absurd (none-some c (sym none))

@@ -43,7 +43,7 @@ pub record Next (parser : Changed EscParser) (old new : Halves) (bytes : List �
   pub given : (s : List ℕ) (es : List Event) → HasConsumed s es parser.entry.now old.memory
       → event.kind ≢ FAILED
       → HasConsumed (s ++ take taken bytes)
-          (es ++ emitted_events event new.out bytes) parser.exit.now
+      (es ++ emitted_events event new.out bytes) parser.exit.now
       new.memory
   -- if there is no event, all bytes were taken
   pub all : event.kind ≡ NONE → (taken ≡ length bytes) × (queued_in parser.exit.now ≡ [])

@@ -214,7 +214,7 @@ plain_spelling u b c h =
     ap (λ t. t && not (c == 0x7f)) (plain_is_clear c low) ∙ ap not other in
     let shown : is_deceiving c ≡ false = low_plain c (omega (arith, small)) in
     ap (λ (t : Bool). if t then if is_deceiving c then replacement u b c else AsItIs else Absent)
-        text
+    text
     ∙ ap (λ (t : Bool). if t then replacement u b c else AsItIs) shown
 
 abbrev with_char : Out → ℕ → Out

@@ -252,7 +252,7 @@ private_back p f a last v h mark prefix found kind value_with =
 between_back : (f : ControlFunction) (a : Arguments) (m last : ℕ) (v : Value) → AreArguments a
     → IsTail (P m ∷ [])
     → function_of (key_with (base_256 1 (marks (P m ∷ [])))
-        (length (entries (intermediate_spelling a m last)))
+    (length (entries (intermediate_spelling a m last)))
     last)
     ≡ Some f
     → of_kind (kind_of f) f (entries (intermediate_spelling a m last))
@@ -262,9 +262,9 @@ between_back f a m last v h i found kind value_with =
     let b = back a (P m ∷ []) h i in
     let key : sequence_key (entries (intermediate_spelling a m last)) last
     ≡ key_with (base_256 1 (marks (P m ∷ [])))
-        (length (entries (intermediate_spelling a m last))) last =
+    (length (entries (intermediate_spelling a m last))) last =
     ap (λ ms. key_with (base_256 1 ms) (length (entries (intermediate_spelling a m last))) last)
-        b.unmarked in
+    b.unmarked in
     back_by f (intermediate_spelling a m last) v (ap function_of key ∙ found) kind
     (ap (arguments (kind_for a)) b.kept ∙ b.read) value_with
 

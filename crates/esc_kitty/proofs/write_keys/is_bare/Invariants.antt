@@ -7,4 +7,4 @@ use Rattle.esc_kitty.proofs.write_keys.is_bare.Given as goal
 abbrev pub invariant-loop-key : goal.invariant-loop-key
 invariant-loop-key l =
     is_bare (present_pairs (map entry l.keys))
-        ≡ is_bare (present_pairs (map entry (drop l.key-index l.keys)))
+    ≡ is_bare (present_pairs (map entry (drop l.key-index l.keys)))

@@ -6,4 +6,4 @@ use Rattle.esc_pen.proofs.pen.Pen.select_all.Given as goal
 abbrev pub invariant-loop-selection : goal.invariant-loop-selection
 invariant-loop-selection l =
     pen_by_all l.self (renditions_left l.selection-iterator)
-        ≡ pen_by_all l.fn.self (renditions_left l.fn.renditions)
+    ≡ pen_by_all l.fn.self (renditions_left l.fn.renditions)

@@ -6,4 +6,4 @@ use Rattle.esc_style.proofs.look.Look.select_all.Given as goal
 abbrev pub invariant-loop-selection : goal.invariant-loop-selection
 invariant-loop-selection l =
     look_by_all l.self (renditions_left l.selection-iterator)
-        ≡ look_by_all l.fn.self (renditions_left l.fn.renditions)
+    ≡ look_by_all l.fn.self (renditions_left l.fn.renditions)
