@@ -58,7 +58,7 @@ impl Account {
 
     /// The account of these bytes too, which are in the output as they came. No string is
     /// unfinished after them.
-    #[tactic(auto, using(crate::proofs::Totals::total_added, crate::proofs::LineCounts::few_feeds))]
+    #[tactic(auto, using(crate::proofs::Counts::TotalIsLength::total_added, crate::proofs::Counts::FeedsAddUp::few_feeds))]
     #[inline]
     pub fn passed(self, bytes: &[u8]) -> Account
         requires room { HasRoom self (length bytes.now) }
@@ -210,7 +210,7 @@ impl Account {
     }
 
     // After a segment of this kind and these bytes, of which by itself this becomes.
-    #[tactic(auto, using(crate::proofs::Totals::total_added, crate::proofs::LineCounts::few_feeds))]
+    #[tactic(auto, using(crate::proofs::Counts::TotalIsLength::total_added, crate::proofs::Counts::FeedsAddUp::few_feeds))]
     fn after(self, kind: SegmentKind, bytes: &[u8], own: Verdict) -> Account
         requires room { HasRoom self (length bytes.now) }
         ensures entered { result ≡ entered_as self kind bytes.now own }

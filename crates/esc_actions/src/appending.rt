@@ -15,7 +15,7 @@ impl<A: Allocator + Copy> Action<A> {
     /// one `PrintString` with it, in its place.
     ///
     /// The error is that memory was refused: the list stays as it was, and the action comes back.
-    #[tactic(auto, using(crate::proofs::Appends::pushed_after_others, crate::proofs::Appends::pushed_no_print))]
+    #[tactic(auto, using(crate::proofs::Lists::ValueAtTheEnd::pushed_after_others, crate::proofs::Lists::ValueAtTheEnd::pushed_no_print))]
     pub fn append_to(self, dest: &mut Vec<Action<A>, A>) -> Result<(), Action<A>>
         ensures appended { OnOk result (map value_of dest.new.items
             ≡ appended_list (map value_of dest.old.items) (value_of self)) }
@@ -76,7 +76,7 @@ fn two_characters<A: Allocator>(alloc: A, first: char, second: char) -> Result<T
 
 // Lets a character join the characters at the end of the list, and returns whether there are any.
 // The error is that memory was refused, and the list stays as it was.
-#[tactic(auto, using(crate::proofs::Appends::joined_said, crate::proofs::Appends::ends_said))]
+#[tactic(auto, using(crate::proofs::Lists::ValueAtTheEnd::joined_said, crate::proofs::Lists::ValueAtTheEnd::ends_said))]
 fn join_last<A: Allocator + Copy>(dest: &mut Vec<Action<A>, A>, c: char) -> Result<bool, AllocError>
     ensures joined { result ≡ Ok true
         → map value_of dest.new.items ≡ appended_list (map value_of dest.old.items) (print c) }

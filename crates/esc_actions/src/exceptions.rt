@@ -31,7 +31,7 @@ pub fn is_exception<A: Allocator>(action: &Action<A>) -> bool
 }
 
 /// Returns whether the text of the escape sequence begins a string or a control sequence.
-#[tactic(auto, using(crate::proofs::Openers::opens_by_letter))]
+#[tactic(auto, using(crate::proofs::Values::LettersThatOpen::opens_by_letter))]
 pub fn is_opening(esc: &Esc) -> bool
     ensures { result ≡ is_opening esc.now }
 {

@@ -115,7 +115,7 @@ pub fn keeps_once()
 }
 
 /// A writable list and its normal list have the same text.
-#[tactic(auto, using(crate::proofs::Normal::same_text))]
+#[tactic(auto, using(crate::proofs::Writing::NormalIsWritable::same_text))]
 pub fn same_text<A: Allocator>()
     ensures { (vs : List (Value A)) → AreWritable vs → list_text (normal vs) ≡ list_text vs }
 {}
@@ -129,13 +129,13 @@ pub fn same_normal<A: Allocator>()
 }
 
 /// The normal list of a writable list is writable.
-#[tactic(auto, using(crate::proofs::Normal::normal_writable))]
+#[tactic(auto, using(crate::proofs::Writing::NormalIsWritable::normal_writable))]
 pub fn normal_writable<A: Allocator>()
     ensures { (vs : List (Value A)) → AreWritable vs → AreWritable (normal vs) }
 {}
 
 /// A normal list is its own normal list.
-#[tactic(auto, using(crate::proofs::Normal::normal_normal))]
+#[tactic(auto, using(crate::proofs::Writing::NormalIsWritable::normal_normal))]
 pub fn normal_normal<A: Allocator>()
     ensures { (vs : List (Value A)) → normal (normal vs) ≡ normal vs }
 {}
@@ -161,7 +161,7 @@ pub fn yield_handed_out<A: Allocator>()
 
 /// The values that calls hand out one after another, joined, are the meaning of the bytes that they
 /// were fed.
-#[tactic(auto, using(crate::proofs::Meanings::meaning_more))]
+#[tactic(auto, using(crate::proofs::Meaning::MeaningsJoin::meaning_more))]
 pub fn meaning_of_more<A: Allocator>()
     ensures { (limit : Option ℕ) (s b : List ℕ)
         → meaning_within {A = A} limit s ++ yield_within limit s b

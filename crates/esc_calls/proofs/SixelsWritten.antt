@@ -5,7 +5,7 @@ use Rattle.std.specs.Global.{Global}
 use Rattle.flat_values.proofs.SixelsFound.{sixels_whole}
 use Rattle.flat_values.specs.Sixels.{sixel_row}
 use Rattle.flat_values.specs.declared.sixel_row.SixelRow.{SixelRow}
-use Rattle.esc_sixel.proofs.WritesBack.{writes_back}
+use Rattle.esc_sixel.proofs.Writing.WritesBack.{writes_back}
 use Rattle.esc_sixel.specs.Writable.{AreWritableData, IsWritable, IsWritableData}
 use Rattle.esc_sixel.specs.declared.sixel.Sixel.{Sixel}
 use Rattle.esc_sixel.specs.declared.sixel_data.SixelData.{SixelData}

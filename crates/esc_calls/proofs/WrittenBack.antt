@@ -4,7 +4,7 @@ use Rattle.std.specs.Global.{Global}
 use Rattle.std.specs.List.{list_all}
 use Rattle.std.specs.Str.{IsUtf8, chars}
 use Rattle.std.proofs.lemmas.Str.{chars_from_encodes, encodes-chars, is_utf8-from_IsUtf8}
-use Rattle.esc_values.proofs.ClearTexts.{clear_utf8}
+use Rattle.esc_values.proofs.Clear.ClearTexts.{clear_utf8}
 use Rattle.esc_values.specs.Clear.{is_clear, IsClearText}
 use Rattle.esc_values.specs.Scalars.{utf8_of}
 use Rattle.esc_osc.proofs.ReadsBack.{reads_back, writes_clear}

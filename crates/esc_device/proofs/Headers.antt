@@ -10,11 +10,11 @@ use Rattle.std.proofs.lemmas.List.Folds.{list_all-append, flat_map-map}
 use Rattle.std.proofs.lemmas.List.Sums.{take_while-cons}
 use Rattle.esc_values.specs.Clear.{AreClearParts, semicolon_list}
 use Rattle.esc_values.specs.Params.{is_private_prefix, is_intermediate_byte, after_private_prefix, drop_while, capped_at_i64, value_after}
-use Rattle.esc_values.proofs.Numerals.{decimal_part, decimal_passes}
-use Rattle.esc_values.proofs.Split.{parts_text}
+use Rattle.esc_values.proofs.Clear.NumbersAreClear.{decimal_part, decimal_passes}
+use Rattle.esc_values.proofs.Clear.SplitAndJoined.{parts_text}
 use Rattle.esc_frame.specs.Bodies.{is_dcs_parameter, is_dcs_header, dcs_params, dcs_intermediates, private_prefix_of}
 use Rattle.esc_sixel.specs.Writable.{IsNatural, AreNatural, params_of}
-use Rattle.esc_sixel.proofs.Slices.{decimal_slice}
+use Rattle.esc_sixel.proofs.Runs.RunsAreNumbers.{decimal_slice}
 use Rattle.esc_device.proofs.Bytes.{intermediate_no_private_prefix, intermediate_no_parameter, parameter_no_private_prefix}
 use Rattle.esc_device.specs.Says.{IsMark, ReadsBack}
 use Rattle.esc_device.specs.Texts.{params_text}

@@ -18,7 +18,7 @@ use Rattle.esc_frame.proofs.Emits.StringsSay.{says_dcs}
 use Rattle.esc_sixel.specs.Texts.{is_sixel, sixel_text}
 use Rattle.esc_sixel.specs.Writable.{AreNatural, params_of, is_data_byte, IsWritable as IsWritableSixel}
 use Rattle.esc_sixel.specs.declared.sixel.Sixel.{Sixel}
-use Rattle.esc_sixel.proofs.WritesBack.{writes_back as sixel_writes_back}
+use Rattle.esc_sixel.proofs.Writing.WritesBack.{writes_back as sixel_writes_back}
 use Rattle.xtgettcap.specs.Names.{names_text, query_text, is_query_byte, AreWritable as AreWritableNames}
 use Rattle.xtgettcap.proofs.ReadsBack.{writes_back as query_writes_back}
 use Rattle.esc_device.proofs.Bytes.{all_pass, in_body_all, private_prefix_in_body, parameter_in_body, intermediate_in_body, private_prefix_small, final_ends, final_small}

@@ -20,7 +20,7 @@ use Rattle.esc_frame.specs.declared.utf8.sequence.Outcome.{Outcome}
 use Rattle.esc_frame.specs.declared.utf8.sequence.Outcome.TheVariants as outcomes
 use Rattle.esc_frame.proofs.Emits.EventsAreTheCuts.{after_append, events_append}
 use Rattle.esc_sequences.specs.Csis.{CsiValue, csi_of}
-use Rattle.esc_actions.proofs.Meanings.{meaning_nil, values_append}
+use Rattle.esc_actions.proofs.Meaning.MeaningsJoin.{meaning_nil, values_append}
 use Rattle.esc_actions.specs.ControlCodes.{code_of}
 use Rattle.esc_actions.specs.Meaning.{Reads, meaning, meaning_within, mode_from, values_from}
 use Rattle.esc_actions.specs.Values.{Mode, Value, plain, in_sixel, in_termcap, in_short, entered, control, csi, hook_values, print, taken_gives}

@@ -5,7 +5,7 @@ use Rattle.std.proofs.lemmas.Bool.{and_parts, true≢false}
 use Rattle.unicode_visibility.specs.Characters.{is_deceiving, number_text}
 use Rattle.unicode_visibility.specs.Following.{may_follow}
 use Rattle.esc_frame.specs.Classes.{class_of}
-use Rattle.esc_actions.proofs.Normal.{same_text}
+use Rattle.esc_actions.proofs.Writing.NormalIsWritable.{same_text}
 use Rattle.esc_actions.specs.Meaning.{meaning, meaning_within}
 use Rattle.esc_actions.specs.Texts.{list_text, normal, terminator}
 use Rattle.esc_actions.specs.Values.{Value, print, string, control, esc, csi, osc, kitty, sixel, termcap, short, enter, datum, exit}

@@ -13,7 +13,7 @@ use Rattle.base64.specs.declared.decode.DecodeError.{DecodeError}
 use Rattle.base64.specs.declared.engine.DecodePaddingMode.TheVariants.{RequireCanonical}
 use Rattle.base64.proofs.Tables.{all_below_at}
 use Rattle.esc_values.specs.Base64.{engine_value, base64_of}
-use Rattle.esc_values.proofs.Utf8Bytes.{AreBytes, bytes_append, by_index}
+use Rattle.esc_values.proofs.Codecs.TextBytesAreBytes.{AreBytes, bytes_append, by_index}
 
 abbrev table : List ℕ
 table = engine_value.decode_table

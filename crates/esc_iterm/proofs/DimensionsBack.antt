@@ -8,11 +8,11 @@ use Rattle.std.specs.Option.{option_map}
 use Rattle.std.proofs.lemmas.Bool.{eqb-true, cases_Bool}
 use Rattle.std.proofs.lemmas.List.{length-append, append-nil}
 use Rattle.std.proofs.Math.Seq.{drop-append_seam, take-append_seam}
-use Rattle.esc_values.proofs.Numerals.{signed_passes}
+use Rattle.esc_values.proofs.Clear.NumbersAreClear.{signed_passes}
 use Rattle.esc_values.specs.Scalars.{signed_of, IsSigned}
-use Rattle.esc_values.proofs.PlainParts.{all_append}
-use Rattle.esc_values.proofs.Signed.{signed_back_64, signed_where}
-use Rattle.esc_values.proofs.Where.{Where, where_if, where_map}
+use Rattle.esc_values.proofs.Clear.PlainPartsAreClear.{all_append}
+use Rattle.esc_values.proofs.Numbers.FactsIfSome.{Where, where_if, where_map}
+use Rattle.esc_values.proofs.Numbers.SignedReadsBack.{signed_back_64, signed_where}
 use Rattle.esc_iterm.specs.Dimensions.{before_end, measured_dimension, dimension_of, dimension_text, IsDimension}
 use Rattle.esc_iterm.specs.declared.dimension.ITermDimension.{ITermDimension}
 use Rattle.esc_iterm.specs.declared.dimension.ITermDimension.TheVariants.{Automatic, Cells, Pixels, Percent}

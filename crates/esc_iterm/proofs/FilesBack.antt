@@ -10,12 +10,12 @@ use Rattle.esc_values.specs.Clear.{semicolon_list, separated_parts}
 use Rattle.esc_values.specs.Cuts.{Pairs, pair_text}
 use Rattle.esc_values.specs.Fields.{values_of, present_pairs, entries, FitAll}
 use Rattle.esc_values.specs.Scalars.{and_then, number_of}
-use Rattle.esc_values.proofs.Base64.{base64_passes, base64_back, base64_bytes_back}
-use Rattle.esc_values.proofs.Fields.{AreLawful, entries_pass, reads_back, texts_at, written_values}
-use Rattle.esc_values.proofs.Numerals.{number_back, decimal_passes, signed_passes}
-use Rattle.esc_values.proofs.PlainParts.{is_part_plain, all_append}
-use Rattle.esc_values.proofs.Utf8Bytes.{utf8_are_bytes, from_index}
-use Rattle.esc_values.proofs.Where.{Where, where_then, number_where, Anything, anything, content_where}
+use Rattle.esc_values.proofs.Clear.NumbersAreClear.{number_back, decimal_passes, signed_passes}
+use Rattle.esc_values.proofs.Clear.PlainPartsAreClear.{is_part_plain, all_append}
+use Rattle.esc_values.proofs.Codecs.Base64ReadsBack.{base64_passes, base64_back, base64_bytes_back}
+use Rattle.esc_values.proofs.Codecs.FieldsReadBack.{AreLawful, entries_pass, reads_back, texts_at, written_values}
+use Rattle.esc_values.proofs.Codecs.TextBytesAreBytes.{utf8_are_bytes, from_index}
+use Rattle.esc_values.proofs.Numbers.FactsIfSome.{Where, where_then, number_where, Anything, anything, content_where}
 use Rattle.esc_iterm.specs.Dimensions.{dimension_of, IsDimension}
 use Rattle.esc_iterm.specs.Files.{Kind, Size, Name, Dimension, Flag, Of, read_as, text_as, Fits, file_kinds, file_fields, filled_file, file_in, file_with, file_text}
 use Rattle.esc_iterm.specs.Files.{IsWritableFile, FileBack}

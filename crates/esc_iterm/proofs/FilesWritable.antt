@@ -5,8 +5,8 @@ use Rattle.base64.specs.GeneralPurpose.{IsBytes}
 use Rattle.esc_values.specs.Base64.{base64_of}
 use Rattle.esc_values.specs.Cuts.{Pairs}
 use Rattle.esc_values.specs.Fields.{Values, values_of}
-use Rattle.esc_values.proofs.Fields.{read_fits}
-use Rattle.esc_values.proofs.Where.{Where, where_from, where_if, where_then, Anything, anything}
+use Rattle.esc_values.proofs.Codecs.FieldsReadBack.{read_fits}
+use Rattle.esc_values.proofs.Numbers.FactsIfSome.{Where, where_from, where_if, where_then, Anything, anything}
 use Rattle.esc_iterm.specs.Files.{pairs_of, file_fields, filled_file, file_in, file_with, file_from, file_of, IsWritableFile}
 use Rattle.esc_iterm.specs.declared.file_data.ITermFileData.{ITermFileData}
 use Rattle.esc_iterm.proofs.DecodedBytes.{decoded_are_bytes}

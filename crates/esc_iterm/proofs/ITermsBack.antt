@@ -10,11 +10,11 @@ use Rattle.std.proofs.lemmas.Bool.{cases_Bool}
 use Rattle.esc_values.specs.Base64.{base64_text, base64_text_of}
 use Rattle.esc_values.specs.Clear.{IsClearPart, semicolon_list}
 use Rattle.esc_values.specs.Scalars.{and_then}
-use Rattle.esc_values.proofs.Base64.{base64_part, base64_back}
-use Rattle.esc_values.proofs.ClearPairs.{key_back, key_none}
-use Rattle.esc_values.proofs.ClearTexts.{part_append, part_lossy}
-use Rattle.esc_values.proofs.Cutting.{Free}
-use Rattle.esc_values.proofs.PlainParts.{plain_part}
+use Rattle.esc_values.proofs.Clear.ClearPairs.{key_back, key_none}
+use Rattle.esc_values.proofs.Clear.ClearTexts.{part_append, part_lossy}
+use Rattle.esc_values.proofs.Clear.CutAtCharacter.{Free}
+use Rattle.esc_values.proofs.Clear.PlainPartsAreClear.{plain_part}
+use Rattle.esc_values.proofs.Codecs.Base64ReadsBack.{base64_part, base64_back}
 use Rattle.esc_iterm.specs.Files.{file_of, FileBack}
 use Rattle.esc_iterm.specs.ITerms.{lone_keyword, bare_keyword, keyed_word, form_from, form_of, iterm_of, form_text}
 use Rattle.esc_iterm.specs.Tenths.{tenths_text}

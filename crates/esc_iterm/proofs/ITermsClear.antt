@@ -8,9 +8,9 @@ use Rattle.std.specs.Str.Lossy.{utf8_lossy}
 use Rattle.esc_values.specs.Base64.{base64_text_of}
 use Rattle.esc_values.specs.Clear.{IsClearPart, AreClearParts}
 use Rattle.esc_values.specs.Cuts.{key_and_value}
-use Rattle.esc_values.proofs.ClearPairs.{IsClearPair, key_clear}
-use Rattle.esc_values.proofs.ClearTexts.{part_lossy}
-use Rattle.esc_values.proofs.Where.{Where, where_from, where_if, where_map, where_then, content_where}
+use Rattle.esc_values.proofs.Clear.ClearPairs.{IsClearPair, key_clear}
+use Rattle.esc_values.proofs.Clear.ClearTexts.{part_lossy}
+use Rattle.esc_values.proofs.Numbers.FactsIfSome.{Where, where_from, where_if, where_map, where_then, content_where}
 use Rattle.esc_iterm.specs.Files.{file_of, IsWritableFile}
 use Rattle.esc_iterm.specs.ITerms.{lone_keyword, highlight_of, variable_of, assigned_keyword, content_of, cell_size, scaled_size, with_one, with_two, bare_keyword, keyed_word}
 use Rattle.esc_iterm.specs.ITerms.{form_from, form_of, iterm_of}

@@ -7,7 +7,7 @@ use Rattle.std.specs.List.{list_all}
 use Rattle.std.proofs.lemmas.Bool.{eqb-true, cases_Bool, and_parts}
 use Rattle.std.proofs.lemmas.Fmt.{decimal_nonempty}
 use Rattle.esc_values.specs.Scalars.{IsSigned}
-use Rattle.esc_values.proofs.PlainParts.{is_part_plain}
+use Rattle.esc_values.proofs.Clear.PlainPartsAreClear.{is_part_plain}
 
 -- from space to delete, but neither `;` nor `:`
 abbrev pub is_key_plain : ℕ → Bool

@@ -9,10 +9,10 @@ use Rattle.esc_values.specs.Clear.{separated_parts, semicolon_list, IsClearPart,
 use Rattle.esc_values.specs.Cuts.{Pairs, key_and_value, pair_text, pairs_in}
 use Rattle.esc_values.specs.Fields.{Entry, with_value, present_pairs}
 use Rattle.esc_values.specs.Scalars.{and_then}
-use Rattle.esc_values.proofs.ClearPairs.{key_back}
-use Rattle.esc_values.proofs.Cutting.{Free, free_passes, cut_there}
-use Rattle.esc_values.proofs.Fields.{is_entry_of}
-use Rattle.esc_values.proofs.PlainParts.{is_part_plain, plain_part, all_append}
+use Rattle.esc_values.proofs.Clear.ClearPairs.{key_back}
+use Rattle.esc_values.proofs.Clear.CutAtCharacter.{Free, free_passes, cut_there}
+use Rattle.esc_values.proofs.Clear.PlainPartsAreClear.{is_part_plain, plain_part, all_append}
+use Rattle.esc_values.proofs.Codecs.FieldsReadBack.{is_entry_of}
 use Rattle.esc_iterm.specs.Files.{slice_pairs, last_pairs, pairs_of, file_of, file_from}
 use Rattle.esc_iterm.proofs.KeyTexts.{is_key_plain, is_name, is_value, key_plain_part, name_plain}
 

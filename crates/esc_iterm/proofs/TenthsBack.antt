@@ -7,12 +7,12 @@ use Rattle.std.proofs.lemmas.Str.Parse.{digit_at}
 use Rattle.esc_values.specs.Clear.{IsClearPart}
 use Rattle.esc_values.specs.Cuts.{cut_at}
 use Rattle.esc_values.specs.Scalars.{and_then, some_if, number_in}
-use Rattle.esc_values.proofs.ClearTexts.{part_append}
-use Rattle.esc_values.proofs.Cutting.{Free, free_from, cut_there}
-use Rattle.esc_values.proofs.Numbers.{test_from_numeral}
-use Rattle.esc_values.proofs.Numerals.{decimal_part}
-use Rattle.esc_values.proofs.PlainParts.{plain_part}
-use Rattle.esc_values.proofs.Where.{Where, where_then, Anything, anything}
+use Rattle.esc_values.proofs.Clear.ClearTexts.{part_append}
+use Rattle.esc_values.proofs.Clear.CutAtCharacter.{Free, free_from, cut_there}
+use Rattle.esc_values.proofs.Clear.NumbersAreClear.{decimal_part}
+use Rattle.esc_values.proofs.Clear.PlainPartsAreClear.{plain_part}
+use Rattle.esc_values.proofs.Numbers.FactsIfSome.{Where, where_then, Anything, anything}
+use Rattle.esc_values.proofs.Numbers.ParseIsNumber.{test_from_numeral}
 use Rattle.esc_iterm.specs.Tenths.{tenth_of, tenths_in, tenths_from, tenths_of, tenths_text}
 
 -- a number has no character below the digits

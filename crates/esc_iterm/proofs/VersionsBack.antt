@@ -9,11 +9,11 @@ use Rattle.std.proofs.lemmas.Str.Parse.{digit_at}
 use Rattle.esc_values.specs.Clear.{IsClearPart}
 use Rattle.esc_values.specs.Cuts.{cut_at}
 use Rattle.esc_values.specs.Scalars.{utf8_of, number_of}
-use Rattle.esc_values.proofs.ClearTexts.{part_append, part_utf8_of}
-use Rattle.esc_values.proofs.Cutting.{BothClear, cut_clear}
-use Rattle.esc_values.proofs.Numerals.{decimal_part, number_back}
-use Rattle.esc_values.proofs.PlainParts.{plain_part}
-use Rattle.esc_values.proofs.Where.{Where, where_if, where_map, utf8_keeps, number_where}
+use Rattle.esc_values.proofs.Clear.ClearTexts.{part_append, part_utf8_of}
+use Rattle.esc_values.proofs.Clear.CutAtCharacter.{BothClear, cut_clear}
+use Rattle.esc_values.proofs.Clear.NumbersAreClear.{decimal_part, number_back}
+use Rattle.esc_values.proofs.Clear.PlainPartsAreClear.{plain_part}
+use Rattle.esc_values.proofs.Numbers.FactsIfSome.{Where, where_if, where_map, utf8_keeps, number_where}
 use Rattle.esc_iterm.specs.Versions.{labelled_version, unlabelled_version, version_from, version_of, label_text, version_text}
 use Rattle.esc_iterm.specs.WritableITerms.{IsLabel, IsVersion}
 use Rattle.esc_iterm.specs.declared.unicode_version.ITermUnicodeVersionOp.{ITermUnicodeVersionOp}

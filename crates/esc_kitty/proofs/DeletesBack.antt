@@ -2,10 +2,10 @@
 use Rattle.std.proofs.Common.{ℕ, ℤ, ◌≡◌, Bool, true, false, List, [], codes, Option, Some, None, refl, ap, ◌∙◌}
 use Rattle.std.specs.List.{list_all}
 use Rattle.std.specs.Option.{unwrap_or}
-use Rattle.esc_values.proofs.Signed.{signed_back_32}
+use Rattle.esc_values.proofs.Numbers.SignedReadsBack.{signed_back_32}
 use Rattle.esc_kitty.specs.Images.{delete_of, image_by}
 use Rattle.esc_values.specs.Fields.{Values, is_bare, present_pairs}
-use Rattle.esc_values.proofs.Fields.{find}
+use Rattle.esc_values.proofs.Codecs.FieldsReadBack.{find}
 use Rattle.esc_kitty.specs.Kinds.{IsNumber, IsOrder}
 use Rattle.esc_kitty.specs.Texts.{delete_keys, letter, named_keys, placed_keys}
 use Rattle.esc_kitty.specs.Words.{verbosity_word}

@@ -4,11 +4,11 @@ use Rattle.std.specs.Fmt.{decimal}
 use Rattle.std.specs.Option.{unwrap_or}
 use Rattle.std.proofs.lemmas.Bool.{ne_eqb}
 use Rattle.esc_values.specs.Scalars.{and_then, number_of, signed_of}
-use Rattle.esc_values.proofs.Base64.{base64_back}
-use Rattle.esc_values.proofs.ClearTexts.{clear_utf8}
-use Rattle.esc_values.proofs.Numerals.{number_back}
-use Rattle.esc_values.proofs.Plain.{plain_clear}
-use Rattle.esc_values.proofs.Signed.{signed_back_32}
+use Rattle.esc_values.proofs.Clear.ClearTexts.{clear_utf8}
+use Rattle.esc_values.proofs.Clear.NumbersAreClear.{number_back}
+use Rattle.esc_values.proofs.Clear.PlainIsClear.{plain_clear}
+use Rattle.esc_values.proofs.Codecs.Base64ReadsBack.{base64_back}
+use Rattle.esc_values.proofs.Numbers.SignedReadsBack.{signed_back_32}
 use Rattle.std.proofs.lemmas.Str.{is_utf8-from_IsUtf8}
 use Rattle.esc_kitty.specs.Images.{content_by}
 use Rattle.esc_kitty.specs.Keys.{not_zero}

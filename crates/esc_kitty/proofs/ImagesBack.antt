@@ -6,7 +6,7 @@ use Rattle.std.proofs.lemmas.List.Folds.{list_all-append}
 use Rattle.esc_values.specs.Cuts.{Pairs}
 use Rattle.esc_values.specs.Fields.{Entry, Field, FitAll, Values, entries, in_order, is_bare, values_of, present_pairs}
 use Rattle.esc_values.specs.Scalars.{and_then}
-use Rattle.esc_values.proofs.Fields.{entries_pass, find, names_pass, order_passes, reads_back as fields_back, texts, texts_at, with_some}
+use Rattle.esc_values.proofs.Codecs.FieldsReadBack.{entries_pass, find, names_pass, order_passes, reads_back as fields_back, texts, texts_at, with_some}
 use Rattle.esc_kitty.specs.Formats.{compose_fields, compose_made, compose_of, frame_fields, frame_made, frame_of, placement_fields, placement_made}
 use Rattle.esc_kitty.specs.Formats.{placement_of, transmit_fields, transmit_made}
 use Rattle.esc_kitty.specs.Images.{content_of, image_by, image_frame, image_in, image_shown, transmit_of}

@@ -8,8 +8,8 @@ use Rattle.esc_values.specs.Base64.{base64_text_of}
 use Rattle.esc_values.specs.Cuts.{Pairs, cut_at}
 use Rattle.esc_values.specs.Fields.{Values, values_of}
 use Rattle.esc_values.specs.Scalars.{IsSigned, and_then, utf8_of}
-use Rattle.esc_values.proofs.Fields.{read_fits}
-use Rattle.esc_values.proofs.Where.{Where, where_if, where_map, where_then, utf8_keeps, Anything, anything, content_where}
+use Rattle.esc_values.proofs.Codecs.FieldsReadBack.{read_fits}
+use Rattle.esc_values.proofs.Numbers.FactsIfSome.{Where, where_if, where_map, where_then, utf8_keeps, Anything, anything, content_where}
 use Rattle.esc_kitty.specs.Formats.{compose_fields, compose_made, compose_of, frame_fields, frame_made, frame_of, placement_fields, placement_made}
 use Rattle.esc_kitty.specs.Formats.{placement_of, transmit_fields, transmit_made, transmit_with}
 use Rattle.esc_kitty.specs.Images.{content_by, content_of, delete_by, delete_in, delete_of, image_by, image_frame, image_in, image_of, image_shown}

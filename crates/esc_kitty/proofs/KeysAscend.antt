@@ -2,7 +2,7 @@
 use Rattle.std.proofs.Common.{◌≡◌, true, [], ◌∷◌, refl}
 use Rattle.esc_values.specs.Cuts.{Pairs}
 use Rattle.esc_values.specs.Fields.{ascends, present_pairs}
-use Rattle.esc_values.proofs.Fields.{written_ascends}
+use Rattle.esc_values.proofs.Codecs.FieldsReadBack.{written_ascends}
 use Rattle.esc_kitty.specs.Texts.{compose_keys, delete_keys, display_keys, frame_keys, image_keys, or_action, query_keys, shown_keys, transmit_keys}
 use Rattle.esc_kitty.specs.declared.verbosity.KittyImageVerbosity.{KittyImageVerbosity}
 use Rattle.esc_kitty.specs.declared.delete.KittyImageDelete.{KittyImageDelete}

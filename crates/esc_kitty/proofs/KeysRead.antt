@@ -13,10 +13,10 @@ use Rattle.esc_values.specs.Clear.{IsClearPart}
 use Rattle.esc_values.specs.Cuts.{Pairs, cut_at, pair_text, pairs_in}
 use Rattle.esc_values.specs.Fields.{Entry, is_bare, values_of, with_value, present_pairs}
 use Rattle.esc_values.specs.Scalars.{IsSigned}
-use Rattle.esc_values.proofs.ClearPairs.{key_back}
-use Rattle.esc_values.proofs.Cutting.{Free, free_passes, cut_there, split_free}
-use Rattle.esc_values.proofs.Fields.{find, written_values}
-use Rattle.esc_values.proofs.PlainParts.{is_part_plain, plain_part, all_append}
+use Rattle.esc_values.proofs.Clear.ClearPairs.{key_back}
+use Rattle.esc_values.proofs.Clear.CutAtCharacter.{Free, free_passes, cut_there, split_free}
+use Rattle.esc_values.proofs.Clear.PlainPartsAreClear.{is_part_plain, plain_part, all_append}
+use Rattle.esc_values.proofs.Codecs.FieldsReadBack.{find, written_values}
 use Rattle.esc_kitty.specs.Images.{image_in, image_of, image_with, keys_and_payload}
 use Rattle.esc_kitty.specs.Keys.{keys_of}
 use Rattle.esc_kitty.specs.Texts.{keys_text}

@@ -2,9 +2,9 @@
 use Rattle.std.proofs.Common.{ℕ, ◌≡◌, ◌<◌, ◌^◌, ◌==◌, true, inl, inr, List, Option, Some, None, ap}
 use Rattle.std.proofs.lemmas.Bool.{eqb-false, cases_Bool}
 use Rattle.esc_values.specs.Scalars.{IsSigned, and_then, number_of, signed_of}
-use Rattle.esc_values.proofs.Fields.{AreLawful}
-use Rattle.esc_values.proofs.Signed.{signed_where}
-use Rattle.esc_values.proofs.Where.{Where, where_then, number_where, Anything, anything}
+use Rattle.esc_values.proofs.Codecs.FieldsReadBack.{AreLawful}
+use Rattle.esc_values.proofs.Numbers.FactsIfSome.{Where, where_then, number_where, Anything, anything}
+use Rattle.esc_values.proofs.Numbers.SignedReadsBack.{signed_where}
 use Rattle.esc_kitty.specs.Keys.{not_zero}
 use Rattle.esc_kitty.specs.Kinds.{IsFrameNumber, IsNumber, IsOrder, Kind, Number, FrameNumber, Order, Flag, Format, Compression, Composition}
 use Rattle.esc_kitty.specs.Kinds.{Of, Fits, kinds, read_as, text_as}

@@ -4,7 +4,7 @@ use Rattle.std.specs.List.{list_all}
 use Rattle.std.specs.Option.{unwrap_or}
 use Rattle.esc_values.specs.Cuts.{Pairs}
 use Rattle.esc_values.specs.Fields.{Values, is_bare, values_of}
-use Rattle.esc_values.proofs.PlainParts.{all_append}
+use Rattle.esc_values.proofs.Clear.PlainPartsAreClear.{all_append}
 use Rattle.esc_kitty.specs.Images.{image_by, image_in, image_of}
 use Rattle.esc_kitty.specs.Texts.{keys_text}
 use Rattle.esc_kitty.specs.Words.{verbosity_word}

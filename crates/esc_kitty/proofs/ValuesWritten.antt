@@ -2,8 +2,8 @@
 use Rattle.std.proofs.Common.{ℕ, ℤ, ◌≡◌, ◌==◌, Bool, true, false, not, Option, Some, None, refl, arith}
 use Rattle.std.proofs.lemmas.Bool.{and_parts}
 use Rattle.std.specs.List.{list_all}
-use Rattle.esc_values.proofs.Base64.{base64_passes}
-use Rattle.esc_values.proofs.Utf8Bytes.{utf8_are_bytes}
+use Rattle.esc_values.proofs.Codecs.Base64ReadsBack.{base64_passes}
+use Rattle.esc_values.proofs.Codecs.TextBytesAreBytes.{utf8_are_bytes}
 use Rattle.esc_kitty.specs.Kinds.{IsFrameNumber, IsNumber, IsOrder, number_text, signed_text}
 use Rattle.esc_kitty.specs.Texts.{content_text, medium_word, offset_in, size_in}
 use Rattle.esc_kitty.specs.Words.{composition_word, compression_word, flag_word, format_word, verbosity_word}
@@ -89,6 +89,6 @@ content_kept (SharedMem t s o) h = base64_passes is_kept refl refl t (utf8_are_b
 
 pub word_kept : (c : ℕ) → is_word c ≡ true → is_kept c ≡ true
 word_kept c h =
-    let part = and_parts (Rattle.esc_values.proofs.PlainParts.is_part_plain c) (not (c == 0x2c))
-    h in
+    let part = and_parts (Rattle.esc_values.proofs.Clear.PlainPartsAreClear.is_part_plain c)
+    (not (c == 0x2c)) h in
     (and_parts (is_kept c) (not (c == 0x3b)) part.0).0

@@ -8,11 +8,11 @@ use Rattle.esc_values.specs.Cuts.{Pairs}
 use Rattle.esc_links.specs.declared.hyperlink.Hyperlink.{Hyperlink}
 use Rattle.esc_links.specs.Hyperlinks.{params_of, params_text, link_to, link_in, link_of, link_text}
 use Rattle.esc_values.specs.Scalars.{and_then, utf8_of}
-use Rattle.esc_values.proofs.ClearTexts.{part_utf8_of}
+use Rattle.esc_values.proofs.Clear.ClearTexts.{part_utf8_of}
 use Rattle.esc_links.proofs.ParamsBack.{AreReadable, readable, params_clear, params_text_some, params_back}
-use Rattle.esc_values.proofs.PlainParts.{plain_part}
-use Rattle.esc_values.proofs.Split.{parts_text}
-use Rattle.esc_values.proofs.Where.{Where}
+use Rattle.esc_values.proofs.Clear.PlainPartsAreClear.{plain_part}
+use Rattle.esc_values.proofs.Clear.SplitAndJoined.{parts_text}
+use Rattle.esc_values.proofs.Numbers.FactsIfSome.{Where}
 
 text_of : (p1 p2 : List ℕ) → semicolon_list (codes "8" ∷ p1 ∷ p2 ∷ []) ≡ codes "8;" ++ (p1 ++ 0x3b ∷ p2)
 text_of p1 p2 = ap (λ t. codes "8;" ++ (p1 ++ 0x3b ∷ t)) (append-nil p2)

@@ -11,13 +11,13 @@ use Rattle.esc_values.specs.Clear.{is_part_char, IsClearPart}
 use Rattle.esc_values.specs.Cuts.{Pairs, key_and_value, pairs_in, pair_text}
 use Rattle.esc_links.specs.Hyperlinks.{pairs_with, put_all, is_colon, params_of, params_text}
 use Rattle.esc_values.specs.Scalars.{and_then}
-use Rattle.esc_values.proofs.ClearPairs.{IsClearPair, key_keeps, key_clear, key_back}
-use Rattle.esc_values.proofs.ClearTexts.{part_append}
-use Rattle.esc_values.proofs.Cutting.{Free, BothFree, free_more, free_append, cut_keeps, split_free, IsStretch, AreStretchs, SplitsAt, splits}
+use Rattle.esc_values.proofs.Clear.ClearPairs.{IsClearPair, key_keeps, key_clear, key_back}
+use Rattle.esc_values.proofs.Clear.ClearTexts.{part_append}
+use Rattle.esc_values.proofs.Clear.CutAtCharacter.{Free, BothFree, free_more, free_append, cut_keeps, split_free, IsStretch, AreStretchs, SplitsAt, splits}
 use Rattle.esc_links.proofs.PairsOrder.{AreOrdered, all_ordered, all_put_some, all_back}
 use Rattle.esc_links.proofs.PairsRead.{params_some}
-use Rattle.esc_values.proofs.PlainParts.{plain_part}
-use Rattle.esc_values.proofs.Where.{Where, where_map, where_then, where_both}
+use Rattle.esc_values.proofs.Clear.PlainPartsAreClear.{plain_part}
+use Rattle.esc_values.proofs.Numbers.FactsIfSome.{Where, where_map, where_then, where_both}
 
 -- a key and a value that can be written: clear parts without `:`, and the key without `=`
 abbrev pub IsGood : List ℕ × List ℕ → Type 0

@@ -15,7 +15,7 @@ use Rattle.esc_sequences.specs.declared.sgr.Sgr.{Sgr}
 use Rattle.esc_sequences.specs.declared.sgr.Sgr.TheVariants.{Reset, Intensity, Italic, Underline}
 use Rattle.esc_sequences.specs.declared.underline.Underline.TheVariants as underline
 use Rattle.esc_sequences.specs.Csis.{csi_of, csi_text, csi_value, sgr_of_number, sgr_at, sgr_body, unspecified}
-use Rattle.esc_values.proofs.Digits.{decimal_one, decimal_two}
+use Rattle.esc_values.proofs.Numbers.AtMostThreeDigits.{decimal_one, decimal_two}
 
 -- a test of a chain of tests
 tested : (b : Bool) (x s : Sgr) (o : Option Sgr) → (if b then Some x else o) ≡ Some s

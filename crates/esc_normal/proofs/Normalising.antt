@@ -4,7 +4,7 @@ use Rattle.std.proofs.KnownBytes.{Consumes-whole}
 use Rattle.std.specs.List.{FoldsTo}
 use Rattle.std.specs.Prelude.{IfSome}
 use Rattle.std.specs.Io.KnownBytes.{Appends, Consumes, IsAtEnd}
-use Rattle.esc_actions.proofs.Meanings.{meaning_more}
+use Rattle.esc_actions.proofs.Meaning.MeaningsJoin.{meaning_more}
 use Rattle.esc_actions.specs.Meaning.{meaning_within, yield_within}
 use Rattle.esc_actions.specs.Texts.{is_string, list_text, texts_after}
 use Rattle.esc_actions.specs.Values.{Value, value_of}

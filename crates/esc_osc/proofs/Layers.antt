@@ -5,8 +5,8 @@ use Rattle.esc_values.specs.Clear.{IsClearText, IsClearPart, AreClearParts, part
 use Rattle.esc_links.specs.Hyperlinks.{link_of, link_text}
 use Rattle.esc_links.specs.declared.hyperlink.Hyperlink.{Hyperlink}
 use Rattle.esc_links.proofs.LinksBack.{link_back, link_parts}
-use Rattle.esc_values.proofs.Split.{text_parts}
-use Rattle.esc_values.proofs.Where.{Where, where_from, where_map}
+use Rattle.esc_values.proofs.Clear.SplitAndJoined.{text_parts}
+use Rattle.esc_values.proofs.Numbers.FactsIfSome.{Where, where_from, where_map}
 use Rattle.esc_iterm.specs.ITerms.{iterm_of}
 use Rattle.esc_iterm.specs.WritableITerms.{IsWritableITerm}
 use Rattle.esc_iterm.specs.declared.proprietary.ITermProprietary.{ITermProprietary}

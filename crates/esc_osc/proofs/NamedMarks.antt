@@ -5,8 +5,8 @@ use Rattle.std.specs.Str.{IsUtf8, is_utf8}
 use Rattle.std.proofs.lemmas.Bool.{ne_eqb}
 use Rattle.std.proofs.lemmas.List.{append-nil}
 use Rattle.std.proofs.lemmas.Str.{is_utf8-from_IsUtf8}
-use Rattle.esc_values.proofs.ClearTexts.{part_utf8}
-use Rattle.esc_values.proofs.PlainParts.{plain_part}
+use Rattle.esc_values.proofs.Clear.ClearTexts.{part_utf8}
+use Rattle.esc_values.proofs.Clear.PlainPartsAreClear.{plain_part}
 use Rattle.esc_values.specs.Clear.{framed_text}
 use Rattle.esc_osc.specs.Commands.{command_text}
 use Rattle.esc_osc.specs.Reading.{reading}

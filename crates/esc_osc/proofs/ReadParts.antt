@@ -11,13 +11,13 @@ use Rattle.std.proofs.lemmas.Bool.{cases_Bool}
 use Rattle.esc_values.specs.Base64.{base64_text_of}
 use Rattle.esc_values.specs.Clear.{IsClearText, IsClearPart, AreClearParts, AreTextParts, semicolon_list}
 use Rattle.esc_values.specs.Scalars.{and_then, utf8_of}
-use Rattle.esc_values.proofs.Split.{joined_clear}
-use Rattle.esc_values.proofs.ClearTexts.{part_lossy, parts_lossy, tail_part}
+use Rattle.esc_values.proofs.Clear.SplitAndJoined.{joined_clear}
+use Rattle.esc_values.proofs.Clear.ClearTexts.{part_lossy, parts_lossy, tail_part}
 use Rattle.esc_osc_values.proofs.Codes.{code_of_text}
 use Rattle.esc_osc_values.proofs.Fits.{numbers_where, colors_where, pairs_where, progress_where}
 use Rattle.esc_osc.proofs.Layers.{Good, prompt_good, iterm_good, link_good}
 use Rattle.esc_osc_values.proofs.Selections.{selection_named}
-use Rattle.esc_values.proofs.Where.{Where, where_map, where_then, utf8_keeps, content_where}
+use Rattle.esc_values.proofs.Numbers.FactsIfSome.{Where, where_map, where_then, utf8_keeps, content_where}
 use Rattle.esc_osc_values.specs.Codes.{code_of, code_name, code_text, changed_by, reset_by}
 use Rattle.esc_osc_values.specs.Colors.{colors_of, pairs_of}
 use Rattle.esc_osc_values.specs.Progresses.{progress_of}

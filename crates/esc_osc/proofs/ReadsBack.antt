@@ -7,12 +7,12 @@ use Rattle.std.specs.Str.{IsUtf8}
 use Rattle.std.proofs.lemmas.List.{append-nil}
 use Rattle.esc_values.specs.Base64.{base64_text}
 use Rattle.esc_values.specs.Clear.{IsClearText, IsClearPart, AreClearParts, parts_of}
-use Rattle.esc_values.proofs.Base64.{base64_part, base64_back}
-use Rattle.esc_values.proofs.PlainParts.{plain_part}
-use Rattle.esc_values.proofs.Split.{joined_clear, part_clear, parts_text}
-pub use Rattle.esc_values.proofs.ClearTexts.{chars_scalar, clear_utf8}
+use Rattle.esc_values.proofs.Clear.PlainPartsAreClear.{plain_part}
+use Rattle.esc_values.proofs.Clear.SplitAndJoined.{joined_clear, part_clear, parts_text}
+use Rattle.esc_values.proofs.Codecs.Base64ReadsBack.{base64_part, base64_back}
+pub use Rattle.esc_values.proofs.Clear.ClearTexts.{chars_scalar, clear_utf8}
 pub use Rattle.esc_osc.proofs.ReadParts.{clear_is_writable}
-use Rattle.esc_values.proofs.ClearTexts.{part_utf8_of, part_lossy, parts_lossy, part_append}
+use Rattle.esc_values.proofs.Clear.ClearTexts.{part_utf8_of, part_lossy, parts_lossy, part_append}
 use Rattle.esc_osc_values.proofs.JoinedLossy.{lossy_joined}
 use Rattle.esc_osc_values.proofs.Codes.{code_of-code_text}
 use Rattle.esc_osc_values.proofs.Colors.{specs_are_parts, colors_back, two_parts, two_are_parts, pairs_back, pairs_joined}

@@ -4,9 +4,9 @@ use Rattle.std.specs.Option.{unwrap_or}
 use Rattle.std.proofs.lemmas.List.{append-nil}
 use Rattle.std.proofs.lemmas.Str.{utf8_lossy-IsUtf8}
 use Rattle.esc_values.specs.Clear.{IsClearText, IsClearPart, AreClearParts, AreTextParts, semicolon_list, parts_of}
-use Rattle.esc_values.proofs.PlainParts.{plain_part}
-use Rattle.esc_values.proofs.Split.{joined_clear, parts_text}
-use Rattle.esc_values.proofs.ClearTexts.{part_utf8}
+use Rattle.esc_values.proofs.Clear.PlainPartsAreClear.{plain_part}
+use Rattle.esc_values.proofs.Clear.SplitAndJoined.{joined_clear, parts_text}
+use Rattle.esc_values.proofs.Clear.ClearTexts.{part_utf8}
 use Rattle.esc_osc_values.proofs.Codes.{code_of-code_text, code_plain, code_some, code_name_text}
 use Rattle.esc_osc_values.specs.Codes.{code_text}
 use Rattle.esc_osc.specs.Commands.{inner_text, title_command}

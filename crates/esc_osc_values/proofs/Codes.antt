@@ -6,7 +6,7 @@ use Rattle.std.proofs.Math.Bool.{and-false}
 use Rattle.std.proofs.lemmas.List.{at_drop_more}
 use Rattle.std.proofs.lemmas.Bool.{ne_eqb, lt-leb, le-leb, cases_Bool}
 use Rattle.std.specs.List.{list_all}
-use Rattle.esc_values.proofs.PlainParts.{is_part_plain}
+use Rattle.esc_values.proofs.Clear.PlainPartsAreClear.{is_part_plain}
 use Rattle.esc_osc_values.specs.Codes.{code_text, all_codes, first_named, code_of, code_name}
 use Rattle.esc_osc_values.specs.declared.code.OperatingSystemCommandCode.{OperatingSystemCommandCode}
 use Rattle.esc_osc_values.specs.declared.code.OperatingSystemCommandCode.TheVariants as code

@@ -7,8 +7,8 @@ use Rattle.std.specs.List.{flat_map, list_all}
 use Rattle.base64.specs.Tables.{all_below}
 use Rattle.base64.proofs.Tables.{all_below_at}
 use Rattle.esc_values.specs.Clear.{IsClearPart, AreClearParts}
-use Rattle.esc_values.proofs.PlainParts.{is_part_plain, plain_part, all_append}
-use Rattle.esc_values.proofs.Cutting.{free_passes, cut_there}
+use Rattle.esc_values.proofs.Clear.PlainPartsAreClear.{is_part_plain, plain_part, all_append}
+use Rattle.esc_values.proofs.Clear.CutAtCharacter.{free_passes, cut_there}
 use Rattle.esc_osc_values.proofs.Found.{is_found, found}
 use Rattle.esc_osc_values.proofs.Numerals.{byte_back, byte_part}
 use Rattle.esc_values.specs.Cuts.{cut_at}

@@ -7,7 +7,7 @@ use Rattle.std.specs.List.{starts_with}
 use Rattle.std.specs.Option.{option_map, unwrap_or}
 use Rattle.std.proofs.lemmas.Bool.{ltb-true, leb-true, cases_Bool, and_parts}
 use Rattle.esc_values.specs.Scalars.{and_then, number_of}
-use Rattle.esc_values.proofs.Where.{Where, where_if, where_map, where_then, number_where, Anything, anything}
+use Rattle.esc_values.proofs.Numbers.FactsIfSome.{Where, where_if, where_map, where_then, number_where, Anything, anything}
 use Rattle.esc_values.specs.Cuts.{cut_at}
 use Rattle.esc_osc_values.specs.Colors.{hex_of, hex_after, channel_of, color_from, rgb_of, sharp_of, spec_of, colors_of, pairs_of}
 use Rattle.esc_osc_values.specs.Progresses.{capped_at_100, percent_of, state_of, progress_of}

@@ -3,7 +3,7 @@ use Rattle.std.proofs.Common.{ℕ, ◌≡◌, List, [], ◌∷◌, ◌++◌, ref
 use Rattle.std.specs.List.{flat_map}
 use Rattle.std.specs.Str.Lossy.{utf8_lossy}
 use Rattle.esc_values.specs.Clear.{AreClearParts, semicolon_list}
-use Rattle.esc_values.proofs.ClearTexts.{part_lossy}
+use Rattle.esc_values.proofs.Clear.ClearTexts.{part_lossy}
 use Rattle.esc_osc_values.specs.Lists.{joined_by}
 
 after_lossy : (ps : List (List ℕ)) → AreClearParts ps

@@ -3,7 +3,7 @@ use Rattle.std.proofs.Common.{◌≡◌, ◌≢◌, nat_eq, false, inl, inr, ℕ
 use Rattle.std.specs.Cmp.Lexicographic.{pointwise, same_text}
 use Rattle.std.proofs.lemmas.Bool.{cases_Bool}
 use Rattle.std.specs.Str.{IsUtf8}
-use Rattle.esc_values.proofs.Utf8Bytes.{AreBytes, utf8_are_bytes}
+use Rattle.esc_values.proofs.Codecs.TextBytesAreBytes.{AreBytes, utf8_are_bytes}
 use Rattle.esc_osc_values.specs.Codes.{code_text, text_key}
 use Rattle.esc_osc_values.specs.declared.code.OperatingSystemCommandCode.{OperatingSystemCommandCode}
 use Rattle.esc_osc_values.specs.declared.code.OperatingSystemCommandCode.TheVariants as code

@@ -6,7 +6,7 @@ use Rattle.std.proofs.lemmas.Bool.{ne_eqb, le-leb}
 use Rattle.std.proofs.lemmas.Fmt.{decimal_nonempty}
 use Rattle.esc_values.specs.Clear.{IsClearPart, AreClearParts}
 use Rattle.esc_values.specs.Scalars.{number_of}
-use Rattle.esc_values.proofs.Numerals.{number_back, decimal_part}
+use Rattle.esc_values.proofs.Clear.NumbersAreClear.{number_back, decimal_part}
 use Rattle.esc_osc_values.specs.Lists.{numbers_of}
 use Rattle.esc_osc_values.specs.Progresses.{capped_at_100}
 use Rattle.esc_osc_values.specs.WritableValues.{AreNumbers}

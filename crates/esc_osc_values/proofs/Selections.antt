@@ -11,9 +11,9 @@ use Rattle.base64.specs.Tables.{all_below}
 use Rattle.base64.proofs.Tables.{all_below_at}
 use Rattle.esc_values.specs.Base64.{base64_text, base64_text_of}
 use Rattle.esc_values.specs.Clear.{IsClearPart}
-use Rattle.esc_values.proofs.Base64.{base64_back}
-use Rattle.esc_values.proofs.PlainParts.{is_part_plain, plain_part}
-use Rattle.esc_values.proofs.Where.{Where}
+use Rattle.esc_values.proofs.Clear.PlainPartsAreClear.{is_part_plain, plain_part}
+use Rattle.esc_values.proofs.Codecs.Base64ReadsBack.{base64_back}
+use Rattle.esc_values.proofs.Numbers.FactsIfSome.{Where}
 use Rattle.esc_osc_values.specs.Selections.{letters, letter_bit_in, letter_bit, letter_text, with_letters, selection_of, selection_text}
 use Rattle.esc_osc_values.specs.WritableValues.{IsNamed}
 

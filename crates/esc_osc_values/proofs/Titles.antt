@@ -4,8 +4,8 @@ use Rattle.std.specs.List.{slice_split, onto_first}
 use Rattle.std.specs.Str.{IsUtf8}
 use Rattle.std.proofs.lemmas.Str.{is_utf8-from_IsUtf8}
 use Rattle.esc_values.specs.Clear.{IsClearText, AreClearParts, semicolon_list, separated_parts}
-use Rattle.esc_values.proofs.PlainParts.{plain_part}
-use Rattle.esc_values.proofs.Split.{text_parts, joined_split}
+use Rattle.esc_values.proofs.Clear.PlainPartsAreClear.{plain_part}
+use Rattle.esc_values.proofs.Clear.SplitAndJoined.{text_parts, joined_split}
 use Rattle.esc_osc_values.specs.Lists.{title_of}
 
 -- every text splits into at least one part

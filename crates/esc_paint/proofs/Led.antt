@@ -7,14 +7,14 @@ use Rattle.esc_frame.specs.Segments.{joined_bytes}
 use Rattle.esc_frame.specs.Stream.{IsAfterFinished}
 use Rattle.esc_actions.specs.Meaning.{meaning_within, yield_within}
 use Rattle.esc_actions.specs.Readings.{MeansItsSegments}
-use Rattle.esc_actions.proofs.Meanings.{yield_whole}
+use Rattle.esc_actions.proofs.Meaning.MeaningsJoin.{yield_whole}
 use Rattle.esc_style.specs.declared.look.Look.{Look}
 use Rattle.esc_screen.specs.Grids.{Grid, Size}
 use Rattle.esc_screen.specs.Halves.{AreWhole, HasWholeRows}
 use Rattle.esc_screen.specs.Sound.{AreWide, IsSound}
 use Rattle.esc_screen.specs.Steps.{grid_from}
-use Rattle.esc_screen.proofs.StaysSound.{stays_sound}
-use Rattle.esc_screen.proofs.StaysWhole.{stays_whole}
+use Rattle.esc_screen.proofs.Sound.StaysSound.{stays_sound}
+use Rattle.esc_screen.proofs.Whole.GridsStayWhole.{stays_whole}
 use Rattle.esc_screen.specs.declared.cell.Cell.{Cell}
 use Rattle.esc_terminal.specs.Laws.{GoesOn, IsAlwaysSound, IsAlwaysWhole}
 use Rattle.esc_terminal.specs.Streams.{shown_after, shown_of, values_of}

@@ -14,7 +14,7 @@ use Rattle.esc_screen.specs.declared.content.Content.{Content}
 use Rattle.esc_screen.specs.declared.content.Content.TheVariants as content
 use Rattle.esc_screen.specs.declared.marks.Marks.{Marks}
 use Rattle.esc_screen.specs.declared.step.Step.TheVariants as step
-use Rattle.esc_screen.proofs.Runs.{in_chunks}
+use Rattle.esc_screen.proofs.Printing.RunsOfCharacters.{in_chunks}
 use Rattle.esc_terminal.specs.Looks.{erased_look}
 use Rattle.esc_terminal.specs.Steps.{print_step}
 use Rattle.esc_paint.specs.Parts.{Part, character, erase_right, look, part_step}

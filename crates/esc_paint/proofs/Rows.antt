@@ -17,8 +17,8 @@ use Rattle.esc_screen.specs.declared.cursor.Cursor.{Cursor}
 use Rattle.esc_screen.specs.declared.motion.Motion.TheVariants as motion
 use Rattle.esc_screen.specs.declared.setting.Setting.TheVariants as setting
 use Rattle.esc_screen.specs.declared.step.Step.TheVariants as step
-use Rattle.esc_screen.proofs.Free.{cut_same}
-use Rattle.esc_screen.proofs.Runs.{not_wrapped, run_is}
+use Rattle.esc_screen.proofs.Printing.RunsOfCharacters.{not_wrapped, run_is}
+use Rattle.esc_screen.proofs.Whole.RunWithoutWide.{cut_same}
 
 -- ---- states
 

@@ -4,11 +4,11 @@ use Rattle.esc_frame.specs.Segments.{joined_bytes}
 use Rattle.esc_frame.specs.Stream.{IsAfterFinished}
 use Rattle.esc_actions.specs.Meaning.{meaning_within, yield_within}
 use Rattle.esc_actions.specs.Readings.{MeansItsSegments}
-use Rattle.esc_actions.proofs.Meanings.{yield_whole}
+use Rattle.esc_actions.proofs.Meaning.MeaningsJoin.{yield_whole}
 use Rattle.esc_sgr.specs.Sgr.{same_look}
 use Rattle.esc_style.specs.declared.look.Look.{Look}
 use Rattle.esc_screen.specs.Grids.{Size}
-use Rattle.esc_screen.proofs.StaysSound.{begins_sound}
+use Rattle.esc_screen.proofs.Sound.StaysSound.{begins_sound}
 use Rattle.esc_screen.specs.Steps.{grid_from}
 use Rattle.esc_screen.specs.declared.cell.Cell.{Cell}
 use Rattle.esc_screen.specs.declared.content.Content.{Content}

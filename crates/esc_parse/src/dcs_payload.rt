@@ -32,7 +32,7 @@ pub enum DcsPayload<A: Allocator = Global> {
 }
 
 // Returns the state that is kept of a string that begins.
-#[tactic(auto, using(crate::proofs::DataLimits::zero_within))]
+#[tactic(auto, using(crate::proofs::Data::CountedToLimit::zero_within))]
 pub(crate) fn begin<A: Allocator + Copy>(
     alloc: A,
     kind: StringKind,
@@ -79,7 +79,7 @@ pub(crate) fn header_action<A: Allocator + Copy>(
 }
 
 // Returns the action at the end of a string, if it has one.
-#[tactic(auto, using(crate::proofs::DataLimits::over_gives))]
+#[tactic(auto, using(crate::proofs::Data::CountedToLimit::over_gives))]
 pub(crate) fn end<A: Allocator + Copy>(
     alloc: A,
     dcs_payload: DcsPayload<A>,

@@ -10,7 +10,7 @@ use std::alloc::Allocator;
 /// segments. So each promise of a call after a stream holds as well after the unfinished part of
 /// the stream alone: the actions of the call, and that memory is asked for only if the cut of that
 /// part and of the call's bytes holds a string or a control sequence.
-#[tactic(auto, using(crate::proofs::Alone::unfinished_alone))]
+#[tactic(auto, using(crate::proofs::Values::NothingIsKept::unfinished_alone))]
 pub fn unfinished_alone<A: Allocator>()
     ensures { (limit : Option ℕ) (s u : List ℕ) (p : Parser A) → IsAfterFinished s u
         → ParserHasConsumedWithin limit s p → ParserHasConsumedWithin limit u p }

@@ -45,7 +45,7 @@ impl<A: Allocator + Copy> SixelText<A> {
     }
 
     /// More bytes of the data, with the effect of a `push` of each.
-    #[tactic(auto, using(crate::proofs::Sixels::appended))]
+    #[tactic(auto, using(crate::proofs::Runs::RunsOfSixels::appended))]
     pub fn push_run(&mut self, bytes: &[u8]) -> Result<(), AllocError>
         ensures ok { OnOk result (FoldsTo Pushes self.old bytes.now self.new) }
         ensures refused { OnErr result (Refused A) }

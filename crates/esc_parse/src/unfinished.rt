@@ -96,7 +96,7 @@ impl<A: Allocator + Copy> Unfinished<A> {
 
     /// Returns the number of bytes of its data that come first in `bytes`, if only its end makes an
     /// action: the bytes 20 to 7E, for a string that is no mode.
-    #[tactic(auto, unfolding(crate::specs::Fed::Hooks), using(crate::proofs::DataSkips::keeps_over, crate::proofs::DataSkips::run_is_data))]
+    #[tactic(auto, unfolding(crate::specs::Fed::Hooks), using(crate::proofs::Data::DataWithoutMode::keeps_over, crate::proofs::Data::DataWithoutMode::run_is_data))]
     #[inline]
     pub fn data_ahead(&self, bytes: &[u8]) -> usize
         ensures few { result ≤ length bytes.now }
@@ -114,7 +114,7 @@ impl<A: Allocator + Copy> Unfinished<A> {
     }
 
     /// Takes one more byte of its data. Past the limit all that was kept of it is dropped.
-    #[tactic(auto, unfolding(crate::specs::Fed::Hooks), using(crate::proofs::DataLimits::counts_more, crate::proofs::DataLimits::passed, crate::proofs::DataLimits::over_stays))]
+    #[tactic(auto, unfolding(crate::specs::Fed::Hooks), using(crate::proofs::Data::CountedToLimit::counts_more, crate::proofs::Data::CountedToLimit::passed, crate::proofs::Data::CountedToLimit::over_stays))]
     #[inline]
     pub fn push(&mut self, byte: u8) -> Result<(), AllocError>
         ensures hooks { Hooking self.old (λ limit m. OnOk result
@@ -183,7 +183,7 @@ impl<A: Allocator + Copy> Unfinished<A> {
     }
 
     /// Returns whether it is a sixel image: then its end gives an image or nothing.
-    #[tactic(auto, unfolding(crate::specs::Fed::Hooks), using(crate::proofs::Images::sixel_images))]
+    #[tactic(auto, unfolding(crate::specs::Fed::Hooks), using(crate::proofs::Data::ImagesLeaveSink::sixel_images))]
     #[inline]
     pub fn is_sixel(&self) -> bool
         ensures { IsTrue result → Hooking self.now (λ limit m.
@@ -216,7 +216,7 @@ impl<A: Allocator + Copy> Unfinished<A> {
 
     /// Returns the number of bytes of its data that are kept; 0 once they passed the limit, and for
     /// a string that keeps none.
-    #[tactic(auto, unfolding(crate::specs::Fed::Hooks), using(crate::proofs::DataLimits::zero_within))]
+    #[tactic(auto, unfolding(crate::specs::Fed::Hooks), using(crate::proofs::Data::CountedToLimit::zero_within))]
     pub fn kept(&self) -> usize
         ensures counts { Hooking self.now (λ limit m.
             result ≡ min (kept_within limit (data_count m)) most) }

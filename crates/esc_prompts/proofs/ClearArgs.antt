@@ -6,9 +6,9 @@ use Rattle.std.specs.Option.{option_map, unwrap_or}
 use Rattle.esc_values.specs.Clear.{IsClearPart, AreClearParts}
 use Rattle.esc_values.specs.Cuts.{Pairs, key_and_value, pairs_in, without_empty, last_value}
 use Rattle.esc_values.specs.Scalars.{IsSigned, signed_of}
-use Rattle.esc_values.proofs.ClearPairs.{IsClearPair, key_clear}
-use Rattle.esc_values.proofs.Signed.{signed_where}
-use Rattle.esc_values.proofs.Where.{Where, where_if, where_map, where_then, anything}
+use Rattle.esc_values.proofs.Clear.ClearPairs.{IsClearPair, key_clear}
+use Rattle.esc_values.proofs.Numbers.FactsIfSome.{Where, where_if, where_map, where_then, anything}
+use Rattle.esc_values.proofs.Numbers.SignedReadsBack.{signed_where}
 use Rattle.esc_prompts.specs.Pairs.{KeyValues, keys_of, last_values}
 use Rattle.esc_prompts.specs.Prompts.{IsAid, IsWritablePrompt, aid_and_click, aid_of, lone_prompt, click_in, kind_among, prompt_of_letter, prompt_of, status_of}
 use Rattle.esc_prompts.specs.declared.click.FinalTermClick.{FinalTermClick}

@@ -5,16 +5,16 @@ use Rattle.std.specs.List.{list_all}
 use Rattle.std.specs.Option.{option_map, unwrap_or}
 use Rattle.std.proofs.lemmas.Bool.{ne_eqb}
 use Rattle.std.proofs.lemmas.List.{append-nil, length-append}
-use Rattle.esc_values.proofs.Numerals.{signed_part}
+use Rattle.esc_values.proofs.Clear.NumbersAreClear.{signed_part}
 use Rattle.esc_values.specs.Clear.{separated_parts, IsClearPart, AreClearParts}
 use Rattle.esc_values.specs.Cuts.{Pairs, pair_text, pairs_in, without_empty}
 use Rattle.esc_values.specs.Fields.{present_pairs}
 use Rattle.esc_values.specs.Scalars.{and_then, IsSigned}
-use Rattle.esc_values.proofs.ClearPairs.{key_back}
-use Rattle.esc_values.proofs.ClearTexts.{part_append}
-use Rattle.esc_values.proofs.Cutting.{Free}
-use Rattle.esc_values.proofs.PlainParts.{is_part_plain, plain_part}
-use Rattle.esc_values.proofs.Signed.{signed_back_32, signed_wide}
+use Rattle.esc_values.proofs.Clear.ClearPairs.{key_back}
+use Rattle.esc_values.proofs.Clear.ClearTexts.{part_append}
+use Rattle.esc_values.proofs.Clear.CutAtCharacter.{Free}
+use Rattle.esc_values.proofs.Clear.PlainPartsAreClear.{is_part_plain, plain_part}
+use Rattle.esc_values.proofs.Numbers.SignedReadsBack.{signed_back_32, signed_wide}
 use Rattle.esc_prompts.specs.Pairs.{KeyValues, last_values}
 use Rattle.esc_prompts.specs.Prompts.{IsAid, IsWritablePrompt, WritesBack, aid_and_click, aid_of, aid_text, click_in, click_text, kind_in}
 use Rattle.esc_prompts.specs.Prompts.{status_of}

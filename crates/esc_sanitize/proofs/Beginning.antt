@@ -5,7 +5,7 @@ use Rattle.esc_decode.specs.Decodings.{OnlyAdds}
 use Rattle.esc_filter.specs.declared.admit.Admit.{Ghosts as Admitter}
 use Rattle.esc_filter.specs.declared.guard.Guard.{Guard}
 use Rattle.esc_normal.specs.declared.feeding.StreamFilter.{Ghosts as Feeder}
-use Rattle.caret_notation.proofs.Begins.{through_nothing}
+use Rattle.caret_notation.proofs.Filters.BeginsAsOneFilter.{through_nothing}
 use Rattle.caret_notation.specs.Through.{through, through_whole}
 use Rattle.caret_notation.specs.declared.marking.Marking.{Marking}
 use Rattle.caret_notation.specs.declared.reveal.Rule.{Rule}

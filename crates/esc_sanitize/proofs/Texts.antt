@@ -19,8 +19,8 @@ use Rattle.line_collapse.proofs.Streams.{final_after_nil, final_longer}
 use Rattle.line_collapse.specs.Streams.{open_of, values_of}
 use Rattle.line_collapse.specs.Windows.{Size}
 use Rattle.esc_normal.specs.Texts.{ends_in_string}
-use Rattle.caret_notation.proofs.Begins.{through_longer}
-use Rattle.caret_notation.proofs.Longer.{revealed_longer}
+use Rattle.caret_notation.proofs.Filters.BeginsAsOneFilter.{through_longer}
+use Rattle.caret_notation.proofs.Streams.TextStays.{revealed_longer}
 use Rattle.caret_notation.specs.Fed.{text_by, whole_by}
 use Rattle.caret_notation.specs.Revealed.{revealed_as, revealed_whole_as}
 use Rattle.caret_notation.specs.Through.{through, through_whole}

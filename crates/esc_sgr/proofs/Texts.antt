@@ -1,6 +1,6 @@
 -- Numbers as text.
 use Rattle.std.proofs.Common.{ℕ, ◌≡◌, ◌+◌, ◌/◌, ◌%◌, ◌<◌, ◌≤◌, Result, Ok, Err, OnOk, ◌∷◌, [], refl}
-use Rattle.esc_values.proofs.Digits.{decimal_one, decimal_two, decimal_three}
+use Rattle.esc_values.proofs.Numbers.AtMostThreeDigits.{decimal_one, decimal_two, decimal_three}
 use Rattle.esc_sgr.specs.Sgr.{number_text}
 
 pub number_one : (n : ℕ) → n < 10 → number_text n ≡ 0x3b ∷ (48 + n) ∷ []

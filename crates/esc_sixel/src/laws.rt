@@ -11,7 +11,7 @@ ghost use Rattle.esc_sixel.specs.declared.sixel.Sixel.{Sixel};
 use std::alloc::Allocator;
 
 /// The items of any data, joined, are the data.
-#[tactic(auto, using(crate::proofs::Cut::is_cut))]
+#[tactic(auto, using(crate::proofs::Bytes::ItemsAreCut::is_cut))]
 pub fn is_cut()
     ensures { (bs : List ℕ) → IsCut bs }
 {}
@@ -28,7 +28,7 @@ pub fn data_is_writable<A: Allocator>()
 {}
 
 /// A byte takes memory exactly if the items that it closes give data.
-#[tactic(auto, using(crate::proofs::Wanted::wants_for_data))]
+#[tactic(auto, using(crate::proofs::Bytes::BytesThatTakeMemory::wants_for_data))]
 pub fn wants_for_data()
     ensures { (o : Open) (c : Class) (b : ℕ) → WantsForData o c b }
 {}

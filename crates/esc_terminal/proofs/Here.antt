@@ -6,7 +6,7 @@ use Rattle.std.proofs.lemmas.Bool.Decides.{nat_tests}
 use Rattle.esc_actions.specs.Values.{value_of}
 use Rattle.esc_actions.specs.declared.action.Action.TheVariants as action
 use Rattle.esc_parse.specs.Given.{Receives}
-use Rattle.esc_parse.proofs.TextRuns.{refuses_run}
+use Rattle.esc_parse.proofs.Runs.RunsOfText.{refuses_run}
 use Rattle.esc_screen.specs.Cells.{inserted_cells}
 use Rattle.esc_screen.specs.Cursors.{drawn_character}
 use Rattle.esc_screen.specs.Grids.{Grid, Size, in_row}
@@ -15,7 +15,7 @@ use Rattle.esc_screen.specs.Screens.{grid_of, size_of}
 use Rattle.esc_screen.specs.Scrolled.{gone_fed, joined_narrow, off_from}
 use Rattle.esc_screen.specs.Steps.{grid_by}
 use Rattle.esc_screen.specs.declared.step.Step.TheVariants as step
-use Rattle.esc_screen.proofs.Runs.{landed_in, not_wrapped}
+use Rattle.esc_screen.proofs.Printing.RunsOfCharacters.{landed_in, not_wrapped}
 use Rattle.esc_terminal.specs.Fed.{Takes, known_in, shown_in}
 use Rattle.esc_terminal.specs.Kept.{HasColumns, KeepsAction, has_column, has_room}
 use Rattle.esc_terminal.specs.Scrolled.{Row, off_by_value, with_known}

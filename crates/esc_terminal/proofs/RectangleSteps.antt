@@ -12,8 +12,8 @@ use Rattle.esc_screen.specs.declared.area.Area.{Area}
 use Rattle.esc_screen.specs.declared.screen.Screen.{Screen}
 use Rattle.esc_screen.specs.declared.step.Step.{Step}
 use Rattle.esc_screen.specs.declared.step.Step.TheVariants as step
-use Rattle.esc_screen.proofs.Runs.{in_chunks}
-use Rattle.esc_screen.proofs.Scrolling.{off_in_chunks}
+use Rattle.esc_screen.proofs.Printing.RunsOfCharacters.{in_chunks}
+use Rattle.esc_screen.proofs.Scrolled.RowsScrolledOff.{off_in_chunks}
 use Rattle.esc_terminal.specs.Fed.{Does, known_in}
 use Rattle.esc_terminal.specs.Kept.{KeepsFunction, KeepsSequence}
 use Rattle.esc_terminal.specs.Links.{Known}

@@ -2,10 +2,10 @@
 use Rattle.std.proofs.Common.{ℕ, ◌≡◌, ◌+◌, List, [], ◌∷◌, ◌++◌, None, Some, Result, Ok, Err, OnOk, true, take, replicate, refl, ap, sym, subst, ◌∙◌, append_assoc, append-nil}
 use Rattle.std.specs.List.{FoldsTo}
 use Rattle.std.proofs.lemmas.List.{replicate_more}
-use Rattle.esc_parse.proofs.Lists.{FoldsTo-append}
+use Rattle.esc_parse.proofs.Lists.StepsOverLists.{FoldsTo-append}
 use Rattle.esc_parse.specs.Given.{At}
 use Rattle.esc_parse.specs.Images.{is_image}
-use Rattle.esc_actions.proofs.Meanings.{meaning_more}
+use Rattle.esc_actions.proofs.Meaning.MeaningsJoin.{meaning_more}
 use Rattle.esc_actions.specs.Meaning.{yield_within}
 use Rattle.esc_actions.specs.Values.{Value, value_of, print, string, control, esc, csi, osc, kitty, sixel, termcap, short, enter, datum, exit}
 use Rattle.esc_actions.specs.declared.action.Action.{Action}
@@ -17,9 +17,9 @@ use Rattle.esc_screen.specs.Scrolled.{gone_by, joined_by, off_by, off_each, off_
 use Rattle.esc_screen.specs.Steps.{grid_by, grid_from}
 use Rattle.esc_screen.specs.declared.screen.Screen.{Screen}
 use Rattle.esc_screen.specs.declared.step.Step.{Step}
-use Rattle.esc_screen.proofs.Joined.{gone_joined, joins_once}
-use Rattle.esc_screen.proofs.Runs.{in_chunks}
-use Rattle.esc_screen.proofs.Scrolling.{in_parts}
+use Rattle.esc_screen.proofs.Printing.RowGoesOnOnce.{gone_joined, joins_once}
+use Rattle.esc_screen.proofs.Printing.RunsOfCharacters.{in_chunks}
+use Rattle.esc_screen.proofs.Scrolled.RowsScrolledOff.{in_parts}
 use Rattle.esc_terminal.specs.Fed.{Does, Shows, Takes, TakesAll, TakesValue, known_in, requests_in, shown_in}
 use Rattle.esc_terminal.specs.Kept.{HandsOut, KeepsAction, KeepsFunction, KeepsStep}
 use Rattle.esc_terminal.specs.Requests.{function_request, request_list}

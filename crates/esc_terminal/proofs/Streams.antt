@@ -1,7 +1,7 @@
 -- Values that a terminal was given.
 use Rattle.std.proofs.Common.{ℕ, ◌≡◌, List, [], ◌∷◌, ◌++◌, None, Some, inl, inr, ap, sym, subst, ◌∙◌, append_assoc, append-nil, refl, true}
 use Rattle.std.specs.List.{FoldsTo}
-use Rattle.esc_actions.proofs.Meanings.{meaning_more, meaning_nil}
+use Rattle.esc_actions.proofs.Meaning.MeaningsJoin.{meaning_more, meaning_nil}
 use Rattle.esc_actions.specs.Meaning.{yield_within}
 use Rattle.esc_actions.specs.Values.{Value, value_of, print, string, control, esc, csi, osc, kitty, sixel, termcap, short, enter, datum, exit}
 use Rattle.esc_actions.specs.declared.action.Action.{Action}
@@ -11,8 +11,8 @@ use Rattle.esc_screen.specs.Grids.{Size, first_grid}
 use Rattle.esc_screen.specs.Screens.{grid_of, size_of}
 use Rattle.esc_screen.specs.Halves.{HasWholeRows}
 use Rattle.esc_screen.specs.Sound.{IsSound}
-use Rattle.esc_screen.proofs.StaysSound.{stays_sound}
-use Rattle.esc_screen.proofs.StaysWhole.{stays_whole}
+use Rattle.esc_screen.proofs.Sound.StaysSound.{stays_sound}
+use Rattle.esc_screen.proofs.Whole.GridsStayWhole.{stays_whole}
 use Rattle.esc_terminal.specs.Fed.{Shows, Takes, TakesSteps, TakesValue, known_in, requests_in, shown_in}
 use Rattle.esc_terminal.specs.Laws.{GoesOn}
 use Rattle.esc_terminal.specs.Links.{first_known}

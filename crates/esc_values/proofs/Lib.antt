@@ -1,15 +1,3 @@
-pub mod Base64
-pub mod ClearPairs
-pub mod ClearTexts
-pub mod Cutting
-pub mod Digits
-pub mod Engine
-pub mod Fields
 pub mod Numbers
-pub mod Numerals
-pub mod Plain
-pub mod PlainParts
-pub mod Signed
-pub mod Split
-pub mod Utf8Bytes
-pub mod Where
+pub mod Clear
+pub mod Codecs

@@ -26,7 +26,7 @@ pub fn write_natural<W: fmt::Write>(number: u64, f: &mut fmt::Formatter<W>) -> f
 }
 
 // Writes a number of at most three digits, one after another.
-#[tactic(auto, using(crate::proofs::Digits::decimal_one))]
+#[tactic(auto, using(crate::proofs::Numbers::AtMostThreeDigits::decimal_one))]
 fn write_small<W: fmt::Write>(number: u8, f: &mut fmt::Formatter<W>) -> fmt::Result
     ensures { DisplaysOnOk W.write_str_gives f.old result (Some (decimal number)) f.new }
 {

@@ -1,6 +1,6 @@
 -- The texts of control sequences of short numbers.
 use Rattle.std.proofs.Common.{ℕ, ◌≡◌, ◌+◌, ◌/◌, ◌%◌, ◌<◌, ◌≤◌, [], ◌∷◌, refl}
-use Rattle.esc_values.proofs.Digits.{decimal_one, decimal_two, decimal_three}
+use Rattle.esc_values.proofs.Numbers.AtMostThreeDigits.{decimal_one, decimal_two, decimal_three}
 use Rattle.esc_write.specs.Plain.{indexed_text, last_text, number_text}
 
 pub number_one : (n f : ℕ) → n < 10 → number_text n f ≡ 0x1b ∷ 0x5b ∷ (48 + n) ∷ f ∷ []

@@ -19,9 +19,9 @@ use Rattle.esc_values.specs.Clear.{framed_text, semicolon_list, parts_of}
 use Rattle.esc_links.specs.Hyperlinks.{is_colon, link_to, params_of}
 use Rattle.esc_values.specs.Scalars.{utf8_of}
 use Rattle.esc_links.specs.declared.hyperlink.Hyperlink.{Hyperlink}
-use Rattle.esc_values.proofs.ClearTexts.{part_utf8}
-use Rattle.esc_values.proofs.PlainParts.{plain_part}
-use Rattle.esc_values.proofs.Split.{joined_split}
+use Rattle.esc_values.proofs.Clear.ClearTexts.{part_utf8}
+use Rattle.esc_values.proofs.Clear.PlainPartsAreClear.{plain_part}
+use Rattle.esc_values.proofs.Clear.SplitAndJoined.{joined_split}
 use Rattle.esc_frame.specs.Scans.{is_unmarked}
 use Rattle.esc_frame.proofs.Cut.SplitAtSemicolons.{split_end, split_next}
 use Rattle.esc_osc.proofs.NamedMarks.{named_end, named_output, named_start}

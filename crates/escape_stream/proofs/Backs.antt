@@ -6,7 +6,7 @@ use Rattle.esc_actions.specs.Meaning.{meaning, yield, yield_within}
 use Rattle.esc_actions.specs.Texts.{list_text, normal, text_after, value_text}
 use Rattle.esc_actions.specs.Values.{Value, print, string, control, esc, csi, osc, kitty, sixel, termcap, short, enter, datum, exit}
 use Rattle.esc_actions.specs.Writable.{IsWritable, AreWritable}
-use Rattle.esc_actions.proofs.Meanings.{meaning_more, yield_whole}
+use Rattle.esc_actions.proofs.Meaning.MeaningsJoin.{meaning_more, yield_whole}
 use Rattle.escape_stream.specs.Asked.{has_own_text}
 use Rattle.esc_parse.specs.Firsts.{IsFirst, first}
 pub use Rattle.esc_normal.proofs.HaveTexts.{writable_has_text}

@@ -1,7 +1,7 @@
 -- The text of a page with its lines in elements.
 use Rattle.std.proofs.Common.{ℕ, ◌≡◌, true, false, List, [], ◌++◌, Option, None, Some, Result, Ok, Err, OnErr, OnOk, refl, ap, sym, ◌∙◌, append_assoc}
 use Rattle.esc_decode.specs.Decodings.{OnlyAdds}
-use Rattle.esc_html.proofs.Lined.{lined_more}
+use Rattle.esc_html.proofs.Lines.LinedPartByPart.{lined_more}
 use Rattle.esc_html.specs.LinedPages.{IsLinedPage}
 use Rattle.esc_html.specs.Lines.{end_if, in_lines, lined_page, number_after, open_after}
 use Rattle.esc_html.specs.Lining.{EndsLines, TakesLines, added_in}

@@ -1,9 +1,9 @@
 -- The HTML of a stream that goes on.
 use Rattle.std.proofs.Common.{ℕ, ◌≡◌, List, [], ◌++◌, Option, ap, sym, ◌∙◌}
 use Rattle.std.proofs.lemmas.Grind.{flat_map-append}
-use Rattle.esc_actions.proofs.Meanings.{meaning_more, meaning_nil}
+use Rattle.esc_actions.proofs.Meaning.MeaningsJoin.{meaning_more, meaning_nil}
 use Rattle.esc_actions.specs.Meaning.{meaning_within, yield_within}
-use Rattle.esc_html.proofs.Pages.{parts_more}
+use Rattle.esc_html.proofs.Parts.PartsNestAndClose.{parts_more}
 use Rattle.esc_html.specs.Pages.{first_state, page_text, page_parts_from, state_from}
 use Rattle.esc_html.specs.PageParts.{html_text, page_part_text}
 use Rattle.esc_html.specs.declared.layout.Layout.{Layout}

@@ -8,9 +8,9 @@ use Rattle.esc_decode.specs.Decodings.{OnlyAdds, decoded_stream}
 use Rattle.esc_decode.specs.declared.encoding.Encoding.{Encoding}
 use Rattle.esc_decode.specs.declared.encoding.Encoding.TheVariants.{CodePage, EightBit, Utf8}
 use Rattle.esc_filter.specs.declared.admit.Admit.{Ghosts as Admitter}
-use Rattle.caret_notation.proofs.Begins.{through_longer}
-use Rattle.caret_notation.proofs.Cutting.{rest_none}
-use Rattle.caret_notation.proofs.Longer.{revealed_longer}
+use Rattle.caret_notation.proofs.Filters.BeginsAsOneFilter.{through_longer}
+use Rattle.caret_notation.proofs.Spans.SpansGrow.{rest_none}
+use Rattle.caret_notation.proofs.Streams.TextStays.{revealed_longer}
 use Rattle.caret_notation.specs.Fed.{text_by, whole_by}
 use Rattle.caret_notation.specs.Revealed.{revealed_as, revealed_whole_as}
 use Rattle.caret_notation.specs.Through.{through, through_whole}

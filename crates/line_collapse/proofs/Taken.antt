@@ -10,7 +10,7 @@ use Rattle.text_tally.specs.Amounts.{amount}
 use Rattle.text_tally.specs.RowText.{cell_bytes, cell_chars, row_bytes, row_chars}
 use Rattle.text_tally.specs.Tallies.{HasTallied, kept_amount}
 use Rattle.text_tally.specs.declared.tally.Tally.{Tally}
-use Rattle.esc_actions.proofs.Meanings.{meaning_nil}
+use Rattle.esc_actions.proofs.Meaning.MeaningsJoin.{meaning_nil}
 use Rattle.esc_actions.specs.Meaning.{yield_within}
 use Rattle.esc_screen.specs.Cells.{blank}
 use Rattle.esc_screen.specs.Used.{IsUnusedFrom}

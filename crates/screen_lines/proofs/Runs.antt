@@ -16,7 +16,7 @@ use Rattle.esc_sgr.specs.Sgr.{same_look}
 use Rattle.esc_style.specs.Looks.{plain_look}
 use Rattle.esc_terminal.specs.Links.{Known, known_look}
 use Rattle.esc_filter.specs.declared.unicode.Unicode.{Unicode}
-use Rattle.esc_values.proofs.Plain.{is_plain as is_low, plain_is_clear}
+use Rattle.esc_values.proofs.Clear.PlainIsClear.{is_plain as is_low, plain_is_clear}
 use Rattle.unicode_visibility.specs.Characters.{is_deceiving}
 use Rattle.unicode_visibility.proofs.Ranges.{low_plain}
 use Rattle.screen_lines.specs.Parts.{Out, replacement, is_text, more_room, most_room, out_by, out_from, spelled_ink, spelled_text, spelling}

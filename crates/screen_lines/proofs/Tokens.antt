@@ -17,7 +17,7 @@ use Rattle.esc_style.specs.declared.look.Look.{Look}
 use Rattle.esc_terminal.specs.Links.{Target}
 use Rattle.esc_terminal.specs.Scrolled.{Row}
 use Rattle.esc_values.specs.Clear.{is_clear}
-use Rattle.esc_values.proofs.Plain.{is_plain as is_low, plain_clear}
+use Rattle.esc_values.proofs.Clear.PlainIsClear.{is_plain as is_low, plain_clear}
 use Rattle.unicode_visibility.specs.Characters.{is_deceiving, number_text}
 use Rattle.unicode_visibility.specs.Following.{may_follow}
 use Rattle.screen_lines.specs.Parts.{Out, Part, begun_text, end_text, ended_ink, id_of, id_text, replacement, is_address_char, is_id, is_text, is_writable, lead_length, lead_text, out_by, out_from, part_ink, part_text, room_after, spelled_ink, spelled_text, spelling}

@@ -5,7 +5,7 @@ use Rattle.std.specs.List.{FoldsTo, list_all, sum_by}
 use Rattle.std.proofs.lemmas.Bool.{and_parts}
 use Rattle.std.proofs.lemmas.Bool.Decides.{nat_tests}
 use Rattle.std.proofs.lemmas.Str.{len_utf8_ascii}
-use Rattle.esc_actions.proofs.Meanings.{meaning_more, meaning_nil}
+use Rattle.esc_actions.proofs.Meaning.MeaningsJoin.{meaning_more, meaning_nil}
 use Rattle.esc_actions.specs.Meaning.{yield_within}
 use Rattle.esc_actions.specs.Values.{Value, value_of}
 use Rattle.esc_actions.specs.declared.action.Action.{Action}

@@ -14,7 +14,7 @@ use Rattle.base64.specs.Tables.{all_below}
 use Rattle.base64.proofs.Tables.{all_below_at}
 use Rattle.hex.specs.Hex.{encode_lower, encode_with, lower_digits, decode_of, IsBytes}
 use Rattle.hex.proofs.HexLemmas.{decode_of-encode_lower}
-use Rattle.esc_values.proofs.Utf8Bytes.{utf8_bytes}
+use Rattle.esc_values.proofs.Codecs.TextBytesAreBytes.{utf8_bytes}
 use Rattle.xtgettcap.proofs.LossyTexts.{lossy_is_text}
 use Rattle.xtgettcap.specs.Names.{name_by, name_of, names_of, hex_text, names_text, is_query_byte, AreTexts, AreWritable, WritesBack}
 

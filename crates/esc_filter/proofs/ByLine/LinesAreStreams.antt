@@ -3,7 +3,7 @@ use Rattle.std.proofs.Common.{ℕ, ◌≡◌, ◌<◌, ◌-◌, length, take, On
 use Rattle.std.specs.List.{flat_map, filter}
 use Rattle.std.proofs.lemmas.Grind.{flat_map-append}
 use Rattle.std.proofs.lemmas.List.{append-nil}
-use Rattle.esc_actions.proofs.Meanings.{meaning_nil}
+use Rattle.esc_actions.proofs.Meaning.MeaningsJoin.{meaning_nil}
 use Rattle.esc_actions.specs.Texts.{list_text, texts_after}
 use Rattle.esc_actions.specs.Values.{Value}
 use Rattle.esc_filter.specs.Closing.{closed_values, closing}
@@ -12,7 +12,7 @@ use Rattle.esc_filter.specs.Lines.{has_line_feed, ends_line, ends_return, body, 
 use Rattle.esc_filter.specs.Lines.{AddsText, ClosesLine, EndsBy, EndsLine, EndsLines, FillsLine, GrowsBy, GrowsLine, GrowsRest, GrowsTo, IsLine}
 use Rattle.esc_filter.specs.Passing.{in_lines, passes}
 use Rattle.esc_normal.specs.Texts.{ends_in_string}
-use Rattle.esc_parse.proofs.Lists.{on_ok_more}
+use Rattle.esc_parse.proofs.Lists.StepsOverLists.{on_ok_more}
 use Rattle.esc_filter.proofs.GivingBack.GivingBackIsWritable.{closed_more}
 use Rattle.esc_filter.proofs.ByLine.BytesOfLines.{before_feed, body_after, body_append, body_held, body_more, body_whole, content_is, ended_is, ends_append, feeds_append, last_is, line_ends, lines_append, no_end, one_line, open_line, return_append, split_at_feed, split_open, whole_line}
 use Rattle.esc_filter.proofs.Output.TextsGrow.{added_as, text_longer_as}

@@ -18,7 +18,7 @@ use Rattle.esc_frame.specs.Scans.{is_data_byte}
 use Rattle.esc_frame.specs.Stream.{events_within}
 use Rattle.esc_frame.proofs.ByteRuns.ManyBytes.{character_does}
 use Rattle.esc_frame.proofs.Emits.EventsAreTheCuts.{after_append, events_append}
-use Rattle.esc_actions.proofs.Meanings.{mode_append, values_append}
+use Rattle.esc_actions.proofs.Meaning.MeaningsJoin.{mode_append, values_append}
 use Rattle.esc_actions.specs.ControlCodes.{code_of}
 use Rattle.esc_actions.specs.Meaning.{meaning_within, mode_from, values_from}
 use Rattle.esc_actions.specs.Texts.{list_text, text_after, texts_after}

@@ -9,8 +9,8 @@ use Rattle.std.proofs.lemmas.Bool.{and_parts, eqb-false, true≢false}
 use Rattle.std.proofs.lemmas.List.Folds.{list_any-append}
 use Rattle.esc_values.specs.Clear.{IsClearText, is_clear}
 use Rattle.esc_values.specs.Cuts.{cut_at}
-use Rattle.esc_values.proofs.Cutting.{Free, encode_free}
-use Rattle.esc_values.proofs.Numerals.{decimal_passes}
+use Rattle.esc_values.proofs.Clear.CutAtCharacter.{Free, encode_free}
+use Rattle.esc_values.proofs.Clear.NumbersAreClear.{decimal_passes}
 use Rattle.esc_kitty.specs.Texts.{image_body, image_text}
 use Rattle.esc_kitty.specs.Writable.{IsWritableImage, ReadsBack as ReadsBackImage, is_kept}
 use Rattle.esc_kitty.specs.declared.image.KittyImage.{KittyImage}

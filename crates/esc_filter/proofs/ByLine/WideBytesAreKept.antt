@@ -10,7 +10,7 @@ use lib.Utf8.{scalar}
 use Rattle.esc_values.specs.Params.{is_from}
 use Rattle.unicode_visibility.specs.Characters.{is_deceiving}
 use Rattle.unicode_visibility.proofs.Ranges.{fifth_far, second_far, sixth_far, third_far}
-use Rattle.esc_values.proofs.PlainParts.{all_append}
+use Rattle.esc_values.proofs.Clear.PlainPartsAreClear.{all_append}
 use Rattle.esc_frame.specs.Machine.Characters.{IsCharacter}
 use Rattle.esc_frame.specs.Sequences.{is_pair, is_sequence, number_of}
 use Rattle.esc_frame.proofs.Cut.WellFormedIsUtf8.{clear_cases, four_is, none_five, number_three, number_two, none_none, none_one, spelled, spells_clear, three_is, two_is}

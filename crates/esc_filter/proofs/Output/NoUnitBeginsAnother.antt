@@ -10,7 +10,7 @@ use Rattle.std.proofs.lemmas.Str.{encode_ascii, encode_same, length-encode, len_
 use Rattle.esc_values.specs.Clear.{IsClearText, framed_text, is_clear}
 use Rattle.esc_values.specs.Cuts.{cut_at}
 use Rattle.esc_values.specs.Params.{is_csi_parameter}
-use Rattle.esc_values.proofs.Cutting.{Free, cut_there, encode_free, free_append, free_passes}
+use Rattle.esc_values.proofs.Clear.CutAtCharacter.{Free, cut_there, encode_free, free_append, free_passes}
 use Rattle.esc_filter.specs.Closing.{joined_lists}
 use Rattle.esc_filter.specs.Tokens.{IsOfTokens, IsToken, is_plain}
 

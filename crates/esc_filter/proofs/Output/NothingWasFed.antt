@@ -2,11 +2,11 @@
 -- writes.
 use Rattle.std.proofs.Common.{ℕ, ◌≡◌, Bool, true, false, List, [], Result, None, Some, refl, sym, subst, ap, ◌∙◌}
 use Rattle.std.specs.List.{filter}
-use Rattle.esc_actions.proofs.Meanings.{meaning_nil}
+use Rattle.esc_actions.proofs.Meaning.MeaningsJoin.{meaning_nil}
 use Rattle.esc_actions.specs.Texts.{list_text}
 use Rattle.std.specs.declared.io.traits.Read.{Ghosts as Reader}
 use Rattle.std.specs.declared.io.traits.Write.{Ghosts as Writer}
-use Rattle.esc_parse.proofs.Lists.{on_ok_more}
+use Rattle.esc_parse.proofs.Lists.StepsOverLists.{on_ok_more}
 use Rattle.esc_normal.specs.Io.{Borrowed}
 use Rattle.esc_actions.specs.Values.{Value}
 use Rattle.esc_filter.specs.Fed.{HasConsumedIn, policy_of}

@@ -2,7 +2,7 @@
 use Rattle.std.proofs.Common.{◌≡◌, ℕ, Bool, false, List, [], ◌∷◌, ◌++◌, Option, None, refl, sym, ap, ◌∙◌}
 use Rattle.std.proofs.lemmas.List.Elements.{filter-append}
 use Rattle.std.specs.List.{filter}
-use Rattle.esc_actions.proofs.Meanings.{meaning_more}
+use Rattle.esc_actions.proofs.Meaning.MeaningsJoin.{meaning_more}
 use Rattle.esc_actions.specs.Meaning.{meaning_within, yield_within}
 use Rattle.esc_actions.specs.Texts.{list_text, texts_after}
 use Rattle.esc_actions.specs.Values.{Value}

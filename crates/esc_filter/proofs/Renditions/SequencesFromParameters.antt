@@ -17,7 +17,7 @@ use Rattle.esc_parse.specs.Given.{By, StopsAt}
 use Rattle.esc_filter.specs.Noted.{Notes, WriteDenies, Writes, WritesLink, WritesRendition, written_of}
 use Rattle.esc_filter.specs.declared.written.Written.{Written}
 use Rattle.esc_osc.specs.Reading.{meaning as command_meant}
-use Rattle.esc_parse.proofs.Lists.{if_ok_more}
+use Rattle.esc_parse.proofs.Lists.StepsOverLists.{if_ok_more}
 use Rattle.esc_normal.proofs.Spelling.{IsCommand, IsSequence}
 use Rattle.esc_filter.proofs.Results.{stops_for}
 use Rattle.std.proofs.lemmas.Result.{on_err_weaker}

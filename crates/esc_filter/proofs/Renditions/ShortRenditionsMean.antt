@@ -15,7 +15,7 @@ use Rattle.std.proofs.lemmas.Str.{encode_ascii}
 use Rattle.esc_values.specs.Params.{after_private_prefix, csi_params, capped_at_i64, is_csi_body, is_csi_parameter, is_digit, is_private_prefix}
 use Rattle.esc_values.specs.declared.csi_param.CsiParam.{CsiParam}
 use Rattle.esc_values.specs.declared.csi_param.CsiParam.TheVariants.{Integer, P}
-use Rattle.esc_values.proofs.Digits.{decimal_one, decimal_two}
+use Rattle.esc_values.proofs.Numbers.AtMostThreeDigits.{decimal_one, decimal_two}
 use Rattle.esc_sequences.specs.Csis.{CsiValue, csi_of, csi_text, csi_value, unspecified}
 use Rattle.esc_sequences.proofs.ParamsText.{number_all, number_is}
 use Rattle.esc_frame.specs.Bodies.{has_more_csi_params, kept_csi_params}

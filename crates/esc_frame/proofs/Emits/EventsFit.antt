@@ -7,7 +7,7 @@ use Rattle.std.proofs.lemmas.Bool.Decides.{nat_tests}
 use Rattle.std.specs.Char.{encode_utf8}
 use Rattle.std.specs.List.{list_all}
 use Rattle.esc_values.specs.Clear.{is_clear, IsClearText, parts_of}
-use Rattle.esc_values.proofs.Split.{clear_append, text_parts}
+use Rattle.esc_values.proofs.Clear.SplitAndJoined.{clear_append, text_parts}
 use Rattle.esc_frame.specs.declared.classes.Class.{Class}
 use Rattle.esc_frame.specs.declared.classes.Class.TheVariants.{C0, Bell, Intermediate, Parameter}
 use Rattle.esc_frame.specs.Classes.{class_of, AllOf, bytes_of_class, without_noise, is_text, is_c0, is_noise, is_intermediate, in_escape, is_control, is_c1, is_put}

@@ -83,7 +83,7 @@ impl<A: Allocator> Screen<A> {
         }
     }
 
-    #[tactic(auto, using(crate::proofs::Scrolling::take_within))]
+    #[tactic(auto, using(crate::proofs::Scrolled::RowsScrolledOff::take_within))]
     /// Counts the rows that a step, other than [`Step::Repeat`], is going to scroll off the top of
     /// the main screen: the first ones, as they are now. None goes off the alternate screen, nor
     /// while the first row is above the margins.

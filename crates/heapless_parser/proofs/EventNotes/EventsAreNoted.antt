@@ -4,7 +4,7 @@ use Rattle.std.proofs.Common.{refl, ap, sym, ◌∙◌, subst, append_assoc, inl
 use Rattle.std.proofs.lemmas.List.{append-nil}
 use Rattle.std.specs.List.{FoldsTo}
 use Rattle.esc_values.specs.Clear.{semicolon_list, parts_of}
-use Rattle.esc_values.proofs.Split.{joined_parts}
+use Rattle.esc_values.proofs.Clear.SplitAndJoined.{joined_parts}
 use Rattle.esc_frame.specs.Events.{Event, StopsAt}
 use Rattle.esc_frame.specs.Limits.{is_within, most}
 use Rattle.heapless_parser.specs.declared.event.EscEvent.{EscEvent}

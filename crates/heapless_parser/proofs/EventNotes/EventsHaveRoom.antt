@@ -4,7 +4,7 @@ use Rattle.std.proofs.Common.{refl, ap, sym, ◌∙◌, subst, Some, Option, ari
 use Rattle.std.proofs.Math.Seq.{take-add}
 use Rattle.std.proofs.lemmas.List.{append-nil}
 use Rattle.esc_values.specs.Clear.{parts_of}
-use Rattle.esc_values.proofs.Split.{joined_parts}
+use Rattle.esc_values.proofs.Clear.SplitAndJoined.{joined_parts}
 use Rattle.esc_frame.specs.declared.classes.Class.{Class}
 use Rattle.esc_frame.specs.declared.classes.Class.TheVariants.{Introducer, Lead, Breaks}
 use Rattle.esc_frame.specs.declared.classes.Breaker.TheVariants.{Escape, C1Introducer, C1Terminator, C1}

@@ -1,8 +1,8 @@
 use Rattle.std.proofs.Common.{Some}
 use Rattle.esc_actions.specs.Values.{value_of}
-use Rattle.esc_parse.proofs.Yields.{performs_fed, performs_some}
+use Rattle.esc_parse.proofs.Values.EventsGiveValues.{performs_fed, performs_some}
 use Rattle.esc_parse.specs.Given.{At}
-use Rattle.caret_notation.proofs.Judging.{Asks, judged_more, stops_refused}
+use Rattle.caret_notation.proofs.Filters.VerdictOfJudge.{Asks, judged_more, stops_refused}
 use Rattle.caret_notation.proofs.judge.judge_all.Goals as goal
 
 pub returns-in-Ok-clause-given : goal.returns-in-Ok-clause-given

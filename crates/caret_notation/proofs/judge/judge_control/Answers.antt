@@ -1,5 +1,5 @@
 use Rattle.std.proofs.Common.{[], Some, sym, take, ◌∙◌}
-use Rattle.caret_notation.proofs.Judging.{control_found}
+use Rattle.caret_notation.proofs.Filters.VerdictOfJudge.{control_found}
 use Rattle.caret_notation.proofs.judge.judge_control.Goals as goal
 
 pub returns : goal.returns

@@ -1,9 +1,9 @@
 use Rattle.std.proofs.Common.{◌≡◌, ◌-◌, ◌+◌, ◌++◌, false, List, ℕ, Some, length, take, drop, sym, ap, ◌∙◌, subst, arith}
 use Rattle.esc_frame.proofs.ByteRuns.CsiRuns.{run_joins}
 use Rattle.esc_frame.proofs.ByteRuns.ManyBytes.{tail_length}
-use Rattle.caret_notation.proofs.Ground.{ground_test}
-use Rattle.caret_notation.proofs.Judging.{finds, judged_first, on_any}
-use Rattle.caret_notation.proofs.Quiet.{quiet_more}
+use Rattle.caret_notation.proofs.Filters.VerdictOfJudge.{finds, judged_first, on_any}
+use Rattle.caret_notation.proofs.Spans.GroundIsTested.{ground_test}
+use Rattle.caret_notation.proofs.Spans.MoreOfSpan.{quiet_more}
 use Rattle.esc_actions.specs.Meaning.{meaning_within}
 use Rattle.caret_notation.specs.Judged.{HasJudged, begun, folded_verdict}
 use Rattle.caret_notation.specs.Spans.{is_at_ground}

@@ -1,6 +1,6 @@
 use Rattle.std.proofs.Common.{[], Some, ap, ◌∙◌}
 use Rattle.esc_actions.specs.Meaning.{meaning_within}
-use Rattle.caret_notation.proofs.Judging.{finds, judged_first, on_any}
+use Rattle.caret_notation.proofs.Filters.VerdictOfJudge.{finds, judged_first, on_any}
 use Rattle.caret_notation.specs.Judged.{begun, folded_verdict}
 use Rattle.caret_notation.proofs.judge.stays.Goals as goal
 

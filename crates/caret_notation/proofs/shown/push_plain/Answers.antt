@@ -1,5 +1,5 @@
 use Rattle.std.proofs.Common.{take, ap, sym, ◌++◌, ◌∙◌}
-use Rattle.caret_notation.proofs.Plain.{plain_settled}
+use Rattle.caret_notation.proofs.VisibleText.PlainShowsItself.{plain_settled}
 use Rattle.caret_notation.proofs.shown.push_plain.Goals as goal
 
 pub returns-clause-ok : goal.returns-clause-ok

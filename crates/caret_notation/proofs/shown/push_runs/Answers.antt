@@ -2,7 +2,7 @@ use Rattle.std.proofs.Common.{◌-◌, ◌++◌, List, ℕ, length, take, drop, 
 use Rattle.esc_frame.proofs.ByteRuns.CsiRuns.{run_joins}
 use Rattle.esc_frame.proofs.ByteRuns.ManyBytes.{tail_length}
 use Rattle.esc_frame.specs.Machine.Prefixes.{prefix_of}
-use Rattle.caret_notation.proofs.Showing.{begun_append, settled_append}
+use Rattle.caret_notation.proofs.VisibleText.ShownInTurn.{begun_append, settled_append}
 use Rattle.caret_notation.specs.Visible.{begun_after, settled_text}
 use Rattle.caret_notation.proofs.shown.push_runs.Goals as goal
 

@@ -2,8 +2,8 @@ use Rattle.std.proofs.Common.{◌≡◌, true, take, subst, sym}
 use Rattle.std.specs.List.{list_all}
 use Rattle.esc_frame.proofs.ByteRuns.ManyBytes.{run_passes}
 use Rattle.esc_frame.specs.Scans.{is_text_byte}
-use Rattle.caret_notation.proofs.Marks.{nothing_stays, shorter_all}
-use Rattle.caret_notation.proofs.Texts.{ascii_admitted, none_admitted}
+use Rattle.caret_notation.proofs.Spans.CharactersAreSpans.{ascii_admitted, none_admitted}
+use Rattle.caret_notation.proofs.Spans.RunsWithoutMark.{nothing_stays, shorter_all}
 use Rattle.caret_notation.proofs.text.ascii_admitted.Goals as goal
 
 pub returns-then-admits_text-clause-text : goal.returns-then-admits_text-clause-text

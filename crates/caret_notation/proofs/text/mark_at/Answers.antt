@@ -1,7 +1,7 @@
 use Rattle.std.proofs.Common.{◌≡◌, false, length, sym, subst, arith}
 use Rattle.std.specs.List.{list_any}
 use Rattle.std.proofs.lemmas.List.{take_all}
-use Rattle.caret_notation.proofs.Marks.{before_mark, none_marked}
+use Rattle.caret_notation.proofs.Spans.RunsWithoutMark.{before_mark, none_marked}
 use Rattle.caret_notation.specs.Visible.{is_mark}
 use Rattle.caret_notation.proofs.text.mark_at.Goals as goal
 

@@ -1,5 +1,5 @@
-use Rattle.caret_notation.proofs.Marks.{nothing_stays, shorter_free}
-use Rattle.caret_notation.proofs.Texts.{wide_admitted}
+use Rattle.caret_notation.proofs.Spans.CharactersAreSpans.{wide_admitted}
+use Rattle.caret_notation.proofs.Spans.RunsWithoutMark.{nothing_stays, shorter_free}
 use Rattle.caret_notation.proofs.text.wide_admitted.Goals as goal
 
 pub returns-then-admits_str-clause-text : goal.returns-then-admits_str-clause-text

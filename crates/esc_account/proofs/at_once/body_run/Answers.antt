@@ -1,7 +1,7 @@
 use Rattle.std.proofs.Common.{◌≡◌, true, take, subst}
 use Rattle.std.specs.List.{list_all}
 use Rattle.esc_frame.specs.Bodies.{is_csi_parameter}
-use Rattle.esc_account.proofs.Looks.{body_is}
+use Rattle.esc_account.proofs.Segments.SequencesWithoutNoise.{body_is}
 use Rattle.esc_account.proofs.at_once.body_run.Goals as goal
 
 pub returns-clause-each : goal.returns-clause-each

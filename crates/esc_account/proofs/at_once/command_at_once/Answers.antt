@@ -1,6 +1,6 @@
 use Rattle.std.proofs.Common.{◌+◌, length, length-drop, take, drop, refl, ap, subst, arith}
 use Rattle.esc_account.specs.AtOnce.{IsCommand}
-use Rattle.esc_account.proofs.Seen.{command_seen}
+use Rattle.esc_account.proofs.AtOnce.SeenIsFirst.{command_seen}
 use Rattle.esc_account.proofs.at_once.command_at_once.Goals as goal
 
 pub returns-else-end-eq0 : goal.returns-else-end-eq0

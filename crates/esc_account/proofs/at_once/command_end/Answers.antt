@@ -1,5 +1,5 @@
 use Rattle.std.proofs.Common.{arith}
-use Rattle.esc_account.proofs.Seen.{open_is, rung_is}
+use Rattle.esc_account.proofs.AtOnce.SeenIsFirst.{open_is, rung_is}
 use Rattle.esc_account.proofs.at_once.command_end.Goals as goal
 
 pub returns-then-bytes-run-eq7-clause-found : goal.returns-then-bytes-run-eq7-clause-found

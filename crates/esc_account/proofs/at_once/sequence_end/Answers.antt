@@ -1,5 +1,5 @@
 use Rattle.std.proofs.Common.{arith}
-use Rattle.esc_account.proofs.Looks.{sequence_is}
+use Rattle.esc_account.proofs.Segments.SequencesWithoutNoise.{sequence_is}
 use Rattle.esc_account.proofs.at_once.sequence_end.Goals as goal
 
 pub returns-then-is_final-clause-found : goal.returns-then-is_final-clause-found

@@ -1,7 +1,7 @@
 use Rattle.std.proofs.Common.{◌≡◌, ◌+◌, None, length, sym, ◌∙◌, arith}
 use Rattle.esc_write.specs.Plain.{IsVerbatim}
 use Rattle.esc_account.specs.Passing.{passed_as}
-use Rattle.esc_account.proofs.LeftCommands.{command_left, command_passed, some_so}
+use Rattle.esc_account.proofs.AtOnce.CommandsAreLeftOut.{command_left, command_passed, some_so}
 use Rattle.esc_account.proofs.command.command_verdict.Goals as goal
 
 pub returns-in-Some-false : goal.returns-in-Some-false

@@ -1,6 +1,6 @@
 use Rattle.std.proofs.Common.{sym, ◌∙◌}
-use Rattle.esc_account.proofs.LeftCommands.{end_left}
-use Rattle.esc_account.proofs.Looks.{not_false}
+use Rattle.esc_account.proofs.AtOnce.CommandsAreLeftOut.{end_left}
+use Rattle.esc_account.proofs.Segments.SequencesWithoutNoise.{not_false}
 use Rattle.esc_account.proofs.command.is_left_end.Goals as goal
 
 pub returns : goal.returns

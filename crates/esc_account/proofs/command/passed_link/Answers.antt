@@ -1,5 +1,5 @@
 use Rattle.std.proofs.Common.{refl, arith}
-use Rattle.esc_account.proofs.LeftCommands.{data_utf8}
+use Rattle.esc_account.proofs.AtOnce.CommandsAreLeftOut.{data_utf8}
 use Rattle.esc_account.proofs.command.passed_link.Goals as goal
 
 pub returns : goal.returns

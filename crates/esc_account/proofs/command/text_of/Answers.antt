@@ -2,7 +2,7 @@ use Rattle.std.proofs.Common.{◌≡◌, true, take, drop, sym, ap, ◌∙◌, s
 use Rattle.std.specs.List.{list_all}
 use Rattle.esc_frame.specs.Scans.{is_data_byte}
 use Rattle.esc_account.specs.AtOnce.{IsTextOf, is_text_end}
-use Rattle.esc_account.proofs.Seen.{run_all, text_is}
+use Rattle.esc_account.proofs.AtOnce.SeenIsFirst.{run_all, text_is}
 use Rattle.esc_account.proofs.command.text_of.Goals as goal
 
 pub returns-then-is_text_end-clause-each : goal.returns-then-is_text_end-clause-each

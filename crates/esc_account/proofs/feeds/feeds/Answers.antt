@@ -1,5 +1,5 @@
 use Rattle.std.proofs.Common.{arith}
-use Rattle.esc_account.proofs.LineCounts.{block_counted, rest_counted, rest_few}
+use Rattle.esc_account.proofs.Counts.FeedsAddUp.{block_counted, rest_counted, rest_few}
 use Rattle.esc_account.proofs.feeds.feeds.Goals as goal
 
 pub loop-at-preserved : goal.loop-at-preserved

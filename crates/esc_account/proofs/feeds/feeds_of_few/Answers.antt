@@ -1,5 +1,5 @@
 use Rattle.std.proofs.Common.{◌+◌, ap, sym, ◌∙◌, arith}
-use Rattle.esc_account.proofs.LineCounts.{byte_counted}
+use Rattle.esc_account.proofs.Counts.FeedsAddUp.{byte_counted}
 use Rattle.esc_account.proofs.feeds.feeds_of_few.Goals as goal
 
 pub loop-b-preserved : goal.loop-b-preserved

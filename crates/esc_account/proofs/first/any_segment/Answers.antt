@@ -1,6 +1,6 @@
 use Rattle.std.proofs.Common.{◌<◌, ◌≤◌, IfSome, length, subst}
 use Rattle.esc_segments.specs.Items.{left_bytes}
-use Rattle.esc_account.proofs.LineRuns.{first_some}
+use Rattle.esc_account.proofs.Entries.LineIsEntered.{first_some}
 use Rattle.esc_account.proofs.first.any_segment.Goals as goal
 
 pub returns-clause-some : goal.returns-clause-some

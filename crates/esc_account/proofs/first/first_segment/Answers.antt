@@ -1,4 +1,4 @@
-use Rattle.esc_account.proofs.Seen.{head_seen, seen_few}
+use Rattle.esc_account.proofs.AtOnce.SeenIsFirst.{head_seen, seen_few}
 use Rattle.esc_account.proofs.first.first_segment.Goals as goal
 
 pub returns-in-Some-clause-first : goal.returns-in-Some-clause-first

@@ -1,5 +1,5 @@
 use Rattle.std.proofs.Common.{◌∷◌, length, drop, ap, arith}
-use Rattle.esc_account.proofs.LineRuns.{last_open}
+use Rattle.esc_account.proofs.Entries.LineIsEntered.{last_open}
 use Rattle.esc_account.proofs.first.segment_ahead.Goals as goal
 
 pub returns-else-segment-clause-none : goal.returns-else-segment-clause-none

@@ -1,4 +1,4 @@
-use Rattle.esc_account.proofs.LastWritten.{as_written}
+use Rattle.esc_account.proofs.Fates.LastCharacterWritten.{as_written}
 use Rattle.esc_account.proofs.laws.before_as_written.Goals as goal
 
 pub returns : goal.returns

@@ -1,4 +1,4 @@
-use Rattle.esc_account.proofs.Blocks.{blocks}
+use Rattle.esc_account.proofs.Entries.BlocksJoin.{blocks}
 use Rattle.esc_account.proofs.laws.blocks_go_on.Goals as goal
 
 pub returns : goal.returns

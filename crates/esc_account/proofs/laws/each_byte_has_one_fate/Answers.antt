@@ -1,4 +1,4 @@
-use Rattle.esc_account.proofs.Totals.{total_all}
+use Rattle.esc_account.proofs.Counts.TotalIsLength.{total_all}
 use Rattle.esc_account.proofs.laws.each_byte_has_one_fate.Goals as goal
 
 pub returns : goal.returns

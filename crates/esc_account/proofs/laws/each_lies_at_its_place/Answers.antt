@@ -1,5 +1,5 @@
 use Rattle.std.proofs.Common.{[], refl}
-use Rattle.esc_account.proofs.Places.{all_lie}
+use Rattle.esc_account.proofs.Counts.EntriesLieAtPlaces.{all_lie}
 use Rattle.esc_account.specs.Accounts.{begun}
 use Rattle.esc_account.proofs.laws.each_lies_at_its_place.Goals as goal
 

@@ -1,4 +1,4 @@
-use Rattle.esc_account.proofs.AddUp.{stream_adds, whole_adds}
+use Rattle.esc_account.proofs.Entries.EntriesAddUp.{stream_adds, whole_adds}
 use Rattle.esc_account.proofs.laws.entries_add_up.Goals as goal
 
 pub returns-clause-whole : goal.returns-clause-whole

@@ -1,4 +1,4 @@
-use Rattle.esc_account.proofs.LinesRun.{run_last, run_line, run_same}
+use Rattle.esc_account.proofs.Lines.AccountOfLines.{run_last, run_line, run_same}
 use Rattle.esc_account.proofs.laws.lines_go_on.Goals as goal
 
 pub returns-clause-line : goal.returns-clause-line

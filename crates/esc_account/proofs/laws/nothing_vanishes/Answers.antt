@@ -2,7 +2,7 @@ use Rattle.std.proofs.Common.{Some}
 use Rattle.esc_frame.specs.Segments.{bytes_of}
 use Rattle.esc_segments.specs.Items.{kind_of}
 use Rattle.esc_actions.specs.Readings.{reading_within}
-use Rattle.esc_account.proofs.Fates.{nothing_told}
+use Rattle.esc_account.proofs.Fates.FateByPolicy.{nothing_told}
 use Rattle.esc_account.proofs.laws.nothing_vanishes.Goals as goal
 
 pub returns : goal.returns

@@ -3,7 +3,7 @@ use Rattle.esc_frame.specs.Segments.{bytes_of}
 use Rattle.esc_segments.specs.Items.{kind_of}
 use Rattle.esc_actions.specs.Readings.{reading_within}
 use Rattle.esc_actions.specs.Texts.{list_text}
-use Rattle.esc_account.proofs.Fates.{as_it_came, passed_is}
+use Rattle.esc_account.proofs.Fates.FateByPolicy.{as_it_came, passed_is}
 use Rattle.esc_account.proofs.laws.passed_as_it_came.Goals as goal
 
 pub returns-clause-written : goal.returns-clause-written

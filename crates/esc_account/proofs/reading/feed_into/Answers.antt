@@ -1,11 +1,11 @@
 use Rattle.std.proofs.Common.{Some, []}
 use Rattle.std.proofs.lemmas.Result.{IfErr-at_err}
-use Rattle.esc_actions.proofs.Meanings.{yield_whole}
+use Rattle.esc_actions.proofs.Meaning.MeaningsJoin.{yield_whole}
 use Rattle.esc_actions.specs.Meaning.{meaning_within}
 use Rattle.esc_actions.specs.Values.{value_of}
-use Rattle.esc_parse.proofs.Lists.{on_ok_at, stops_wanting}
+use Rattle.esc_parse.proofs.Lists.StepsOverLists.{on_ok_at, stops_wanting}
 use Rattle.esc_parse.specs.Given.{At}
-use Rattle.esc_account.proofs.Values.{folds_same}
+use Rattle.esc_account.proofs.Fates.ResultsOfEqualValues.{folds_same}
 use Rattle.esc_account.proofs.reading.feed_into.Goals as goal
 
 pub returns-in-Ok-clause-given : goal.returns-in-Ok-clause-given

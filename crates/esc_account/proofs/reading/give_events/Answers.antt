@@ -1,4 +1,4 @@
-use Rattle.esc_account.proofs.ShortSequences.{taken_ok}
+use Rattle.esc_account.proofs.Segments.ShortSequenceEvent.{taken_ok}
 use Rattle.esc_account.proofs.reading.give_events.Goals as goal
 
 pub returns-else-is_csi : goal.returns-else-is_csi

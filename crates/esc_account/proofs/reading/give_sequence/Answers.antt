@@ -1,4 +1,4 @@
-use Rattle.esc_account.proofs.ShortSequences.{gives_one, taken_ok}
+use Rattle.esc_account.proofs.Segments.ShortSequenceEvent.{gives_one, taken_ok}
 use Rattle.esc_account.proofs.reading.give_sequence.Goals as goal
 
 pub returns-in-Some : goal.returns-in-Some

@@ -2,8 +2,8 @@ use Rattle.std.proofs.Common.{Some, [], ◌∷◌, ◌++◌, ap, ◌∙◌}
 use Rattle.std.specs.List.{FoldsTo}
 use Rattle.esc_actions.specs.Values.{value_of}
 use Rattle.esc_parse.specs.Given.{At}
-use Rattle.esc_account.proofs.Ended.{reads_finished, reads_unfinished}
-use Rattle.esc_account.proofs.Values.{fed_by}
+use Rattle.esc_account.proofs.Fates.ResultsOfEqualValues.{fed_by}
+use Rattle.esc_account.proofs.Segments.EscapeEndsSegment.{reads_finished, reads_unfinished}
 use Rattle.esc_account.proofs.reading.parse_into.Goals as goal
 
 pub returns-then-not-segment-clause-given : goal.returns-then-not-segment-clause-given

@@ -3,7 +3,7 @@ use Rattle.esc_frame.specs.Segments.{is_finished, joined_bytes}
 use Rattle.esc_actions.specs.Readings.{reading_within}
 use Rattle.esc_actions.specs.Values.{value_of}
 use Rattle.esc_account.specs.Brief.{brief}
-use Rattle.esc_account.proofs.Briefs.{keeps}
+use Rattle.esc_account.proofs.Fates.BriefsKeepActions.{keeps}
 use Rattle.esc_account.proofs.reading.read_short.Goals as goal
 
 pub returns-in-Ok : goal.returns-in-Ok

@@ -1,5 +1,5 @@
 use Rattle.std.proofs.Common.{arith, refl, sym, ◌∙◌}
-use Rattle.esc_account.proofs.ShortSequences.{short_told}
+use Rattle.esc_account.proofs.Segments.ShortSequenceEvent.{short_told}
 use Rattle.esc_account.proofs.reading.short_final.Goals as goal
 
 pub returns-else-read-body-clause-told : goal.returns-else-read-body-clause-told

@@ -1,10 +1,10 @@
 use Rattle.std.proofs.Common.{Some}
 use Rattle.esc_frame.specs.Segments.{events_of}
 use Rattle.esc_actions.specs.Values.{plain}
-use Rattle.esc_parse.proofs.Yields.{performs}
+use Rattle.esc_parse.proofs.Values.EventsGiveValues.{performs}
 use Rattle.esc_frame.specs.Segments.{joined_bytes}
-use Rattle.esc_account.proofs.Ended.{first_shape}
-use Rattle.esc_account.proofs.Short.{splits}
+use Rattle.esc_account.proofs.Segments.EscapeEndsSegment.{first_shape}
+use Rattle.esc_account.proofs.Segments.ShortHasNoLimit.{splits}
 use Rattle.esc_account.proofs.reading.split_into.Goals as goal
 
 pub returns-in-Ok : goal.returns-in-Ok

@@ -1,7 +1,7 @@
 use Rattle.std.proofs.Common.{Some, [], ◌∷◌, ◌++◌, ap, ◌∙◌}
 use Rattle.esc_actions.specs.Texts.{list_text}
-use Rattle.esc_account.proofs.Ended.{reads_finished, reads_unfinished}
-use Rattle.esc_account.proofs.Values.{spelled_ok}
+use Rattle.esc_account.proofs.Fates.ResultsOfEqualValues.{spelled_ok}
+use Rattle.esc_account.proofs.Segments.EscapeEndsSegment.{reads_finished, reads_unfinished}
 use Rattle.esc_account.proofs.reading.text_by_parser.Goals as goal
 
 pub returns-then-not-segment-clause-given : goal.returns-then-not-segment-clause-given

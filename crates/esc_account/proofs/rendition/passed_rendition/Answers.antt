@@ -1,5 +1,5 @@
 use Rattle.std.proofs.Common.{take}
-use Rattle.esc_account.proofs.Renditions.{rendition_passes}
+use Rattle.esc_account.proofs.Fates.RenditionsPass.{rendition_passes}
 use Rattle.esc_account.proofs.rendition.passed_rendition.Goals as goal
 
 pub returns-then-known-clause-passed : goal.returns-then-known-clause-passed

@@ -1,5 +1,5 @@
 use Rattle.std.proofs.Common.{arith}
-use Rattle.esc_account.proofs.SameBytes.{block_more}
+use Rattle.esc_account.proofs.Lines.BytesAreTheSame.{block_more}
 use Rattle.esc_account.proofs.same_lines.same_bytes.Goals as goal
 
 pub loop-at-preserved : goal.loop-at-preserved

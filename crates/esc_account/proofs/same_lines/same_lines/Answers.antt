@@ -1,5 +1,5 @@
 use Rattle.std.proofs.Common.{true}
-use Rattle.esc_account.proofs.SameBytes.{ends_there}
+use Rattle.esc_account.proofs.Lines.BytesAreTheSame.{ends_there}
 use Rattle.esc_account.proofs.same_lines.same_lines.Goals as goal
 
 pub returns-in-Some-clause-ends : goal.returns-in-Some-clause-ends

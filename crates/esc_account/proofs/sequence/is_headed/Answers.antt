@@ -1,5 +1,5 @@
 use Rattle.std.proofs.Common.{length}
-use Rattle.esc_account.proofs.Sequences.{headed}
+use Rattle.esc_account.proofs.Fates.FateOfSequence.{headed}
 use Rattle.esc_account.proofs.sequence.is_headed.Goals as goal
 
 pub returns-then-is_same : goal.returns-then-is_same

@@ -1,5 +1,5 @@
 use Rattle.std.proofs.Common.{sym, ◌∙◌}
-use Rattle.esc_account.proofs.Looks.{not_false, sequence_left}
+use Rattle.esc_account.proofs.Segments.SequencesWithoutNoise.{not_false, sequence_left}
 use Rattle.esc_account.proofs.sequence.is_left.Goals as goal
 
 pub returns : goal.returns

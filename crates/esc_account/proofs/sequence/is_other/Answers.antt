@@ -1,6 +1,6 @@
 use Rattle.std.proofs.Common.{arith}
 use Rattle.std.proofs.lemmas.Bool.{eqb-true}
-use Rattle.esc_account.proofs.Seen.{other_whole}
+use Rattle.esc_account.proofs.AtOnce.SeenIsFirst.{other_whole}
 use Rattle.esc_account.proofs.sequence.is_other.Goals as goal
 
 pub returns : goal.returns

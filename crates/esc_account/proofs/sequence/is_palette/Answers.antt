@@ -1,5 +1,5 @@
 use Rattle.std.proofs.Common.{arith, ◌∙◌}
-use Rattle.esc_account.proofs.Sequences.{palette_text}
+use Rattle.esc_account.proofs.Fates.FateOfSequence.{palette_text}
 use Rattle.esc_account.proofs.sequence.is_palette.Goals as goal
 
 pub returns : goal.returns

@@ -1,5 +1,5 @@
 use Rattle.std.proofs.Common.{Some, ap}
-use Rattle.esc_account.proofs.Sequences.{left_is, passed_is, some_so}
+use Rattle.esc_account.proofs.Fates.FateOfSequence.{left_is, passed_is, some_so}
 use Rattle.esc_account.proofs.sequence.known_verdict.Goals as goal
 
 pub returns-in-Some-true : goal.returns-in-Some-true

@@ -1,5 +1,5 @@
 use Rattle.std.proofs.Common.{take}
-use Rattle.esc_account.proofs.Looks.{left_out}
+use Rattle.esc_account.proofs.Segments.SequencesWithoutNoise.{left_out}
 use Rattle.esc_account.proofs.sequence.left_sequence.Goals as goal
 
 pub returns-then-known-clause-left : goal.returns-then-known-clause-left

@@ -1,6 +1,6 @@
 use Rattle.std.proofs.Common.{take, sym, ◌∙◌, subst, arith}
 use Rattle.esc_account.specs.AtOnce.{IsSequence}
-use Rattle.esc_account.proofs.Seen.{other_is}
+use Rattle.esc_account.proofs.AtOnce.SeenIsFirst.{other_is}
 use Rattle.esc_account.proofs.sequence.other_ahead.Goals as goal
 
 pub returns-clause-other : goal.returns-clause-other

@@ -1,6 +1,6 @@
 use Rattle.esc_frame.specs.Segments.{joined_bytes}
-use Rattle.esc_account.proofs.Ended.{first_shape}
-use Rattle.esc_account.proofs.Sequences.{rule_is, some_by}
+use Rattle.esc_account.proofs.Fates.FateOfSequence.{rule_is, some_by}
+use Rattle.esc_account.proofs.Segments.EscapeEndsSegment.{first_shape}
 use Rattle.esc_account.proofs.sequence.sequence_verdict.Goals as goal
 
 pub returns-in-Some : goal.returns-in-Some

@@ -1,6 +1,6 @@
 use Rattle.std.proofs.Common.{◌∙◌, sym}
-use Rattle.esc_account.proofs.Rows.{row_is}
-use Rattle.esc_account.proofs.TableRows.{row_found}
+use Rattle.esc_account.proofs.Rows.OneEntryMore.{row_is}
+use Rattle.esc_account.proofs.Rows.WhereEntryGoes.{row_found}
 use Rattle.esc_account.proofs.table.find.Goals as goal
 
 pub returns-then-is_row-clause-found : goal.returns-then-is_row-clause-found

@@ -1,8 +1,8 @@
 use Rattle.std.proofs.Common.{ap, sym, ◌∙◌, ◌==◌}
 use Rattle.std.proofs.lemmas.Bool.{eqb-true}
 use Rattle.esc_account.specs.Entries.{order}
-use Rattle.esc_account.proofs.TableRows.{is_other, none_past, one_fate}
-use Rattle.esc_account.proofs.Tables.{row_here}
+use Rattle.esc_account.proofs.Rows.TableHasAll.{row_here}
+use Rattle.esc_account.proofs.Rows.WhereEntryGoes.{is_other, none_past, one_fate}
 use Rattle.esc_account.proofs.table.has_fate.Goals as goal
 
 pub returns-then-at-rows-clause-one : goal.returns-then-at-rows-clause-one

@@ -1,4 +1,4 @@
-use Rattle.esc_account.proofs.Texts.{known_admits}
+use Rattle.esc_account.proofs.AtOnce.CharactersPass.{known_admits}
 use Rattle.esc_account.proofs.text.admits_run.Goals as goal
 
 pub returns-then-known : goal.returns-then-known

@@ -1,7 +1,7 @@
 use Rattle.std.proofs.Common.{◌≡◌, true, take, sym, subst}
 use Rattle.std.specs.List.{list_all}
 use Rattle.esc_frame.specs.Scans.{is_data_byte}
-use Rattle.esc_account.proofs.Texts.{run_ahead}
+use Rattle.esc_account.proofs.AtOnce.CharactersPass.{run_ahead}
 use Rattle.esc_account.proofs.text.data_ahead.Goals as goal
 
 pub returns-clause-data : goal.returns-clause-data

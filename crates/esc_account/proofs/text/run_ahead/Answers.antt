@@ -1,7 +1,7 @@
 use Rattle.std.proofs.Common.{suc, ◌≡◌, ◌-◌, Some, take, get_or, subst, arith}
 use Rattle.esc_account.specs.Passing.{IsPassing}
 use Rattle.esc_account.specs.Rules.{rule_of}
-use Rattle.esc_account.proofs.Texts.{data_passes, last_byte, last_taken, none_pass}
+use Rattle.esc_account.proofs.AtOnce.CharactersPass.{data_passes, last_byte, last_taken, none_pass}
 use Rattle.esc_account.proofs.text.run_ahead.Goals as goal
 
 pub returns-then-admits_run-clause-pass : goal.returns-then-admits_run-clause-pass

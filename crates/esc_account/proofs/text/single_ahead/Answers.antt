@@ -2,7 +2,7 @@ use Rattle.std.proofs.Common.{rules, ◌≡◌, take, get_or, ◌∙◌, sym, su
 use Rattle.std.proofs.lemmas.Bool.{eqb-false}
 use Rattle.esc_account.specs.Passing.{IsPassing}
 use Rattle.esc_account.specs.Rules.{rule_of}
-use Rattle.esc_account.proofs.Texts.{feed_passes, none_pass, one_ahead, tab_passes}
+use Rattle.esc_account.proofs.AtOnce.CharactersPass.{feed_passes, none_pass, one_ahead, tab_passes}
 use Rattle.esc_account.proofs.text.single_ahead.Goals as goal
 
 pub returns-then-is_empty-clause-pass : goal.returns-then-is_empty-clause-pass

@@ -1,8 +1,8 @@
 use Rattle.std.proofs.Common.{length, length-drop, take, drop, ap, sym, subst, arith}
 use Rattle.esc_account.specs.Passing.{IsPassing}
 use Rattle.esc_account.specs.Rules.{rule_of}
-use Rattle.esc_account.proofs.SameBytes.{take_plus}
-use Rattle.esc_account.proofs.Texts.{both_pass}
+use Rattle.esc_account.proofs.AtOnce.CharactersPass.{both_pass}
+use Rattle.esc_account.proofs.Lines.BytesAreTheSame.{take_plus}
 use Rattle.esc_account.proofs.text.text_run.Goals as goal
 
 pub loop-at-preserved : goal.loop-at-preserved

@@ -1,7 +1,7 @@
 use Rattle.std.proofs.Common.{◌≡◌, false, take, ◌∙◌, sym, arith}
 use Rattle.unicode_visibility.specs.Characters.{is_deceiving}
 use Rattle.esc_account.specs.Rules.{rule_of}
-use Rattle.esc_account.proofs.Texts.{none_pass, wide_passes}
+use Rattle.esc_account.proofs.AtOnce.CharactersPass.{none_pass, wide_passes}
 use Rattle.esc_account.proofs.text.wide_ahead.Goals as goal
 
 pub returns-then-count-eq0-clause-pass : goal.returns-then-count-eq0-clause-pass

@@ -1,4 +1,4 @@
-use Rattle.esc_account.proofs.Standing.{first_ended, first_whole}
+use Rattle.esc_account.proofs.Lines.LedgerHearsMore.{first_ended, first_whole}
 use Rattle.esc_account.proofs.whole_lines.first_line.Goals as goal
 
 pub returns-in-Some-clause-first : goal.returns-in-Some-clause-first

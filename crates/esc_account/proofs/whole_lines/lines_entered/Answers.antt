@@ -1,5 +1,5 @@
 use Rattle.std.proofs.Common.{rules}
-use Rattle.esc_account.proofs.Standing.{lines_in}
+use Rattle.esc_account.proofs.Lines.LedgerHearsMore.{lines_in}
 use Rattle.esc_account.proofs.whole_lines.lines_entered.Goals as goal
 
 pub loop-n-preserved : goal.loop-n-preserved

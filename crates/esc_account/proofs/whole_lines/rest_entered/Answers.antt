@@ -1,7 +1,7 @@
 use Rattle.std.proofs.Common.{rules, [], ◌++◌, drop, subst, sym, append_assoc, append-nil, arith}
 use Rattle.esc_filter.specs.Lines.{lines}
 use Rattle.esc_account.specs.Ledgers.{LinesRun}
-use Rattle.esc_account.proofs.Standing.{rest_in, rest_none}
+use Rattle.esc_account.proofs.Lines.LedgerHearsMore.{rest_in, rest_none}
 use Rattle.esc_account.proofs.whole_lines.rest_entered.Goals as goal
 
 pub loop-at-preserved : goal.loop-at-preserved

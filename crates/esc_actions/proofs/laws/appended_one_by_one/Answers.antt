@@ -1,4 +1,4 @@
-use Rattle.esc_actions.proofs.Gathered.{one_by_one}
+use Rattle.esc_actions.proofs.Lists.AppendedOneByOne.{one_by_one}
 use Rattle.esc_actions.proofs.laws.appended_one_by_one.Goals as goal
 
 pub returns : goal.returns

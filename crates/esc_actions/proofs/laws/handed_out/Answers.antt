@@ -1,4 +1,4 @@
-use Rattle.esc_actions.proofs.HandedOut.{handed_out}
+use Rattle.esc_actions.proofs.Values.ActionsHandedOut.{handed_out}
 use Rattle.esc_actions.proofs.laws.handed_out.Goals as goal
 
 pub returns : goal.returns

@@ -1,5 +1,5 @@
 use Rattle.std.proofs.Common.{None}
-use Rattle.esc_actions.proofs.Headlines.{meets}
+use Rattle.esc_actions.proofs.Meaning.MeetsHeadline.{meets}
 use Rattle.esc_actions.proofs.laws.headline.Goals as goal
 
 pub returns : goal.returns

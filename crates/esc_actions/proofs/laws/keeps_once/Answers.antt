@@ -1,7 +1,7 @@
 use Rattle.std.proofs.Common.{ap, inl, inr, ◌∙◌}
 use Rattle.esc_frame.specs.Limits.{kept_within}
-use Rattle.esc_actions.proofs.Limited.{nothing_kept}
-use Rattle.esc_actions.proofs.Readings.{kept_once}
+use Rattle.esc_actions.proofs.Meaning.StreamMeansReadings.{kept_once}
+use Rattle.esc_actions.proofs.Meaning.WithinLimitIsSame.{nothing_kept}
 use Rattle.esc_actions.specs.Values.{data_count}
 use Rattle.esc_actions.proofs.laws.keeps_once.Goals as goal
 

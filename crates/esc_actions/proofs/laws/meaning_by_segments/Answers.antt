@@ -1,4 +1,4 @@
-use Rattle.esc_actions.proofs.Readings.{meaning_by_segments}
+use Rattle.esc_actions.proofs.Meaning.StreamMeansReadings.{meaning_by_segments}
 use Rattle.esc_actions.proofs.laws.meaning_by_segments.Goals as goal
 
 pub returns : goal.returns

@@ -1,4 +1,4 @@
-use Rattle.esc_actions.proofs.Readings.{meaning_of_the_cut}
+use Rattle.esc_actions.proofs.Meaning.StreamMeansReadings.{meaning_of_the_cut}
 use Rattle.esc_actions.proofs.laws.meaning_of_the_cut.Goals as goal
 
 pub returns : goal.returns

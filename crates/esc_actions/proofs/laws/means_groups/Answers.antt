@@ -1,4 +1,4 @@
-use Rattle.esc_actions.proofs.Groups.{means_groups}
+use Rattle.esc_actions.proofs.Values.ValuesComeInGroups.{means_groups}
 use Rattle.esc_actions.proofs.laws.means_groups.Goals as goal
 
 pub returns : goal.returns

@@ -1,5 +1,5 @@
 use Rattle.std.proofs.Common.{None}
-use Rattle.esc_actions.proofs.Groups.{means_writable}
+use Rattle.esc_actions.proofs.Values.ValuesComeInGroups.{means_writable}
 use Rattle.esc_actions.proofs.laws.means_writable.Goals as goal
 
 pub returns : goal.returns

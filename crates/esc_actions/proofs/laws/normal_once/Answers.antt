@@ -1,4 +1,4 @@
-use Rattle.esc_actions.proofs.Normal.{normal_once}
+use Rattle.esc_actions.proofs.Writing.NormalIsWritable.{normal_once}
 use Rattle.esc_actions.proofs.laws.normal_once.Goals as goal
 
 pub returns : goal.returns

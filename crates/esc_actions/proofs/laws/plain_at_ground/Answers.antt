@@ -1,4 +1,4 @@
-use Rattle.esc_actions.proofs.Readings.{plain_at_ground}
+use Rattle.esc_actions.proofs.Meaning.StreamMeansReadings.{plain_at_ground}
 use Rattle.esc_actions.proofs.laws.plain_at_ground.Goals as goal
 
 pub returns : goal.returns

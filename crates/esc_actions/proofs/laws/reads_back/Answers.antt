@@ -1,4 +1,4 @@
-use Rattle.esc_actions.proofs.ReadsBack.{reads_back}
+use Rattle.esc_actions.proofs.Writing.WritableReadsBack.{reads_back}
 use Rattle.esc_actions.proofs.laws.reads_back.Goals as goal
 
 pub returns : goal.returns

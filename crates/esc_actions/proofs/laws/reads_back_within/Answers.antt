@@ -1,4 +1,4 @@
-use Rattle.esc_actions.proofs.Limited.{reads_back_within}
+use Rattle.esc_actions.proofs.Meaning.WithinLimitIsSame.{reads_back_within}
 use Rattle.esc_actions.proofs.laws.reads_back_within.Goals as goal
 
 pub returns : goal.returns

@@ -1,4 +1,4 @@
-use Rattle.esc_actions.proofs.ReadsBack.{reads_by_itself}
+use Rattle.esc_actions.proofs.Writing.WritableReadsBack.{reads_by_itself}
 use Rattle.esc_actions.proofs.laws.reads_by_itself.Goals as goal
 
 pub returns : goal.returns

@@ -1,4 +1,4 @@
-use Rattle.esc_actions.proofs.Normal.{same_normal, same_texts}
+use Rattle.esc_actions.proofs.Writing.NormalIsWritable.{same_normal, same_texts}
 use Rattle.esc_actions.proofs.laws.same_normal.Goals as goal
 
 pub returns : goal.returns

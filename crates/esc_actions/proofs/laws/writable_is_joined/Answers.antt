@@ -1,4 +1,4 @@
-use Rattle.esc_actions.proofs.Joins.{joins_groups, joined_writable}
+use Rattle.esc_actions.proofs.Writing.WritableIsJoined.{joins_groups, joined_writable}
 use Rattle.esc_actions.proofs.laws.writable_is_joined.Goals as goal
 
 pub returns : goal.returns

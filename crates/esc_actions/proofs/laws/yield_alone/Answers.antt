@@ -1,4 +1,4 @@
-use Rattle.esc_actions.proofs.Alone.{yield_alone}
+use Rattle.esc_actions.proofs.Meaning.FinishedHasNoEffect.{yield_alone}
 use Rattle.esc_actions.proofs.laws.yield_alone.Goals as goal
 
 pub returns : goal.returns

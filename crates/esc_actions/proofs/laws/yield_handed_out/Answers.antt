@@ -1,4 +1,4 @@
-use Rattle.esc_actions.proofs.HandedOut.{yield_handed}
+use Rattle.esc_actions.proofs.Values.ActionsHandedOut.{yield_handed}
 use Rattle.esc_actions.proofs.laws.yield_handed_out.Goals as goal
 
 pub returns : goal.returns

@@ -1,6 +1,6 @@
 use Rattle.std.proofs.Common.{Global, ◌++◌, [], false, Some, ap, sym, subst, ◌∙◌}
 use Rattle.std.specs.List.{filter}
-use Rattle.esc_actions.proofs.Meanings.{meaning_nil}
+use Rattle.esc_actions.proofs.Meaning.MeaningsJoin.{meaning_nil}
 use Rattle.esc_actions.specs.Texts.{list_text}
 use Rattle.esc_filter.specs.Fed.{HasConsumed, added_by}
 use Rattle.esc_filter.specs.Passing.{passed_text, passes}

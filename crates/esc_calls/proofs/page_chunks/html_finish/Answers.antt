@@ -1,5 +1,5 @@
 use Rattle.std.proofs.Common.{Global, ◌++◌, Some, ap, subst, sym, ◌∙◌}
-use Rattle.esc_html.proofs.Fed.{closing_same}
+use Rattle.esc_html.proofs.Pages.ValuesOfPage.{closing_same}
 use Rattle.esc_html.specs.Shown.{IsPage}
 use Rattle.esc_calls.proofs.Keeping.{kept_has}
 use Rattle.esc_calls.specs.InChunks.{text_in}

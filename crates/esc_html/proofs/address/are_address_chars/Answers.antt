@@ -2,7 +2,7 @@ use Rattle.std.proofs.Common.{chars, ap, sym, ◌∙◌}
 use Rattle.std.specs.List.{list_all}
 use Rattle.std.proofs.lemmas.Str.{IsUtf8-past_char, chars-nil, chars_past_char}
 use Rattle.esc_html.specs.Addresses.{is_address_char}
-use Rattle.esc_html.proofs.EscapedRuns.{nothing_left}
+use Rattle.esc_html.proofs.Texts.RunsAreEscaped.{nothing_left}
 use Rattle.esc_html.proofs.address.are_address_chars.Goals as goal
 
 pub returns-then-not-is_address_char : goal.returns-then-not-is_address_char

@@ -1,5 +1,5 @@
 use Rattle.std.proofs.Common.{◌∙◌}
-use Rattle.esc_html.proofs.Safe.{page_address}
+use Rattle.esc_html.proofs.Parts.PartsAreSafe.{page_address}
 use Rattle.esc_html.proofs.address.is_page_address.Goals as goal
 
 pub returns : goal.returns

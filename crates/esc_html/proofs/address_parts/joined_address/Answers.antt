@@ -1,4 +1,4 @@
-use Rattle.esc_html.proofs.InParts.{joined_is}
+use Rattle.esc_html.proofs.Parts.AddressesInParts.{joined_is}
 use Rattle.esc_html.proofs.address_parts.joined_address.Goals as goal
 
 pub returns-clause-ok : goal.returns-clause-ok

@@ -1,7 +1,7 @@
 use Rattle.std.proofs.Common.{sym, ap, ◌∙◌}
 use Rattle.std.specs.List.{list_all}
 use Rattle.esc_html.specs.Characters.{is_low_byte}
-use Rattle.esc_html.proofs.Characters.{low_text}
+use Rattle.esc_html.proofs.Texts.NoNoncharacters.{low_text}
 use Rattle.esc_html.proofs.character.are_characters.Goals as goal
 
 pub returns-then-are_low_bytes : goal.returns-then-are_low_bytes

@@ -1,4 +1,4 @@
-use Rattle.esc_html.proofs.Runs.{bytes_utf8}
+use Rattle.esc_html.proofs.Pages.RunIsEachCharacter.{bytes_utf8}
 use Rattle.esc_html.proofs.character.as_str.Goals as goal
 
 pub from_utf8_unchecked-requires : goal.from_utf8_unchecked-requires

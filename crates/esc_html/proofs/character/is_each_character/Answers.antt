@@ -2,7 +2,7 @@ use Rattle.std.proofs.Common.{chars, ap, sym, ◌∙◌}
 use Rattle.std.specs.List.{list_all}
 use Rattle.std.proofs.lemmas.Str.{IsUtf8-past_char, chars-nil, chars_past_char}
 use Rattle.esc_html.specs.Characters.{is_character}
-use Rattle.esc_html.proofs.EscapedRuns.{nothing_left}
+use Rattle.esc_html.proofs.Texts.RunsAreEscaped.{nothing_left}
 use Rattle.esc_html.proofs.character.is_each_character.Goals as goal
 
 pub returns-then-is_noncharacter : goal.returns-then-is_noncharacter

@@ -1,4 +1,4 @@
-use Rattle.esc_html.proofs.ColoredLooks.{colored_some}
+use Rattle.esc_html.proofs.Looks.ColoredIsItsColor.{colored_some}
 use Rattle.esc_html.proofs.colored.colored_tag.Goals as goal
 
 pub returns-in-Named : goal.returns-in-Named

@@ -1,8 +1,8 @@
 use Rattle.std.proofs.Common.{string_bytes, ap, sym, ◌∙◌, ◌++◌}
 use Rattle.std.specs.Char.{encode_utf8}
 use Rattle.std.specs.List.{flat_map}
-use Rattle.esc_html.proofs.Encoded.{referenced, unreferenced}
-use Rattle.esc_html.proofs.EscapedRuns.{grown_ok}
+use Rattle.esc_html.proofs.Texts.EscapedBytesAreUtf8.{referenced, unreferenced}
+use Rattle.esc_html.proofs.Texts.RunsAreEscaped.{grown_ok}
 use Rattle.esc_html.specs.PageParts.{escape_text}
 use Rattle.esc_html.proofs.escaping.push_char.Goals as goal
 

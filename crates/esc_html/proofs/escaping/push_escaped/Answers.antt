@@ -3,7 +3,7 @@ use Rattle.std.specs.List.{flat_map}
 use Rattle.std.proofs.lemmas.Str.{IsCharBoundary-after_ascii}
 use Rattle.memchr.specs.Find.{is_byte3, IsFirstByte}
 use Rattle.esc_html.specs.PageParts.{escape}
-use Rattle.esc_html.proofs.EscapedRuns.{escape_none, next_mark, mark_small, next_run, grows_not, grows_by, grows_moved, grows_on, grown_ok}
+use Rattle.esc_html.proofs.Texts.RunsAreEscaped.{escape_none, next_mark, mark_small, next_run, grows_not, grows_by, grows_moved, grows_on, grown_ok}
 use Rattle.esc_html.proofs.escaping.push_escaped.Goals as goal
 
 pub loop-at-init : goal.loop-at-init

@@ -1,5 +1,5 @@
 use Rattle.std.proofs.Common.{◌++◌, string_bytes, ap, ◌∙◌}
-use Rattle.esc_html.proofs.Attributes.{three_added}
+use Rattle.esc_html.proofs.Texts.AttributesAreWhole.{three_added}
 use Rattle.esc_html.specs.Inline.{background_text, decoration_text, foreground_text}
 use Rattle.esc_style.specs.Looks.{seen_foreground, shown_background}
 use Rattle.esc_html.proofs.inline.push_colors.Goals as goal

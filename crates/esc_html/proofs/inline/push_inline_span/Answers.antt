@@ -1,5 +1,5 @@
 use Rattle.std.proofs.Common.{string_bytes}
-use Rattle.esc_html.proofs.Attributes.{inline_joined}
+use Rattle.esc_html.proofs.Texts.AttributesAreWhole.{inline_joined}
 use Rattle.esc_html.specs.Inline.{colors_text, keywords_text}
 use Rattle.esc_html.proofs.inline.push_inline_span.Goals as goal
 

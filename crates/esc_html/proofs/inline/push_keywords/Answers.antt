@@ -1,5 +1,5 @@
 use Rattle.std.proofs.Common.{◌++◌, string_bytes, ap, ◌∙◌}
-use Rattle.esc_html.proofs.Attributes.{four_added}
+use Rattle.esc_html.proofs.Texts.AttributesAreWhole.{four_added}
 use Rattle.esc_html.specs.Inline.{is_underlined, kind_text, lines_text, slant_text, weight_text}
 use Rattle.esc_html.proofs.inline.push_keywords.Goals as goal
 

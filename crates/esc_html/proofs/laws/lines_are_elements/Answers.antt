@@ -1,4 +1,4 @@
-use Rattle.esc_html.proofs.LinedPages.{lined_page_is}
+use Rattle.esc_html.proofs.Lines.LinedTagsClose.{lined_page_is}
 use Rattle.esc_html.proofs.laws.lines_are_elements.Goals as goal
 
 pub returns : goal.returns

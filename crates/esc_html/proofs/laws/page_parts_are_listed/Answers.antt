@@ -1,4 +1,4 @@
-use Rattle.esc_html.proofs.Listing.{page_parts_are_listed}
+use Rattle.esc_html.proofs.Texts.TokensAreListed.{page_parts_are_listed}
 use Rattle.esc_html.proofs.laws.page_parts_are_listed.Goals as goal
 
 pub returns : goal.returns

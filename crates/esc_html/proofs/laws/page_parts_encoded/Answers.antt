@@ -1,4 +1,4 @@
-use Rattle.esc_html.proofs.Encoded.{page_parts_encoded}
+use Rattle.esc_html.proofs.Texts.EscapedBytesAreUtf8.{page_parts_encoded}
 use Rattle.esc_html.proofs.laws.page_parts_encoded.Goals as goal
 
 pub returns : goal.returns

@@ -1,4 +1,4 @@
-use Rattle.esc_html.proofs.Reading.{page_parts_read_back}
+use Rattle.esc_html.proofs.Texts.PartsReadAsTokens.{page_parts_read_back}
 use Rattle.esc_html.proofs.laws.page_parts_read_back.Goals as goal
 
 pub returns : goal.returns

@@ -1,4 +1,4 @@
-use Rattle.esc_html.proofs.Whole.{page_is}
+use Rattle.esc_html.proofs.Pages.PageOfStream.{page_is}
 use Rattle.esc_html.proofs.laws.streams_are_pages.Goals as goal
 
 pub returns : goal.returns

@@ -1,8 +1,8 @@
 use Rattle.std.proofs.Common.{codes, string_bytes, ap, ◌∙◌, ◌++◌}
 use Rattle.std.specs.Fmt.{decimal}
 use Rattle.esc_html.specs.Lines.{line_begin}
-use Rattle.esc_html.proofs.EscapedRuns.{grown_ok}
-use Rattle.esc_html.proofs.Lining.{begun_text, number_text}
+use Rattle.esc_html.proofs.Lines.StateOfLines.{begun_text, number_text}
+use Rattle.esc_html.proofs.Texts.RunsAreEscaped.{grown_ok}
 use Rattle.esc_html.proofs.line_writer.push_begin.Goals as goal
 
 pub returns-clause-ok : goal.returns-clause-ok

@@ -1,5 +1,5 @@
 use Rattle.std.proofs.Common.{sym, ◌∙◌}
-use Rattle.esc_html.proofs.LookKinds.{other_is}
+use Rattle.esc_html.proofs.Looks.KindsOfLooks.{other_is}
 use Rattle.esc_html.proofs.page_look.kind_of.Goals as goal
 
 pub returns-then-is_plain : goal.returns-then-is_plain

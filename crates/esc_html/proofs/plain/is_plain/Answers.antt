@@ -1,5 +1,5 @@
 use Rattle.std.proofs.Common.{◌≡◌, ◌&&◌, Bool, true, false, refl, ap, sym, ◌∙◌}
-use Rattle.esc_html.proofs.PlainLooks.{plain_same}
+use Rattle.esc_html.proofs.Looks.PlainHasNoAttribute.{plain_same}
 use Rattle.esc_html.specs.Plain.{is_markless}
 use Rattle.esc_html.proofs.plain.is_plain.Goals as goal
 

@@ -1,5 +1,5 @@
 use Rattle.std.proofs.Common.{sym}
-use Rattle.esc_html.proofs.Commons.{asks_common}
+use Rattle.esc_html.proofs.Sequences.OneNumberIsOneValue.{asks_common}
 use Rattle.esc_html.proofs.renditions.common_of.Goals as goal
 
 pub returns-in-Some : goal.returns-in-Some

@@ -1,5 +1,5 @@
 use Rattle.std.proofs.Common.{sym, ◌∙◌}
-use Rattle.esc_html.proofs.Commons.{asks_lone}
+use Rattle.esc_html.proofs.Sequences.OneNumberIsOneValue.{asks_lone}
 use Rattle.esc_html.proofs.renditions.common_rendition.Goals as goal
 
 pub returns : goal.returns

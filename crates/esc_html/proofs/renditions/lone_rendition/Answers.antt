@@ -1,5 +1,5 @@
 use Rattle.std.proofs.Common.{sym, ◌∙◌}
-use Rattle.esc_html.proofs.Numbers.{lone_is}
+use Rattle.esc_html.proofs.Sequences.OneNumberAsks.{lone_is}
 use Rattle.esc_html.proofs.renditions.lone_rendition.Goals as goal
 
 pub returns : goal.returns

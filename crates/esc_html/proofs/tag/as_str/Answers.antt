@@ -1,4 +1,4 @@
-use Rattle.esc_html.proofs.EscapedRuns.{ascii_utf8}
+use Rattle.esc_html.proofs.Texts.RunsAreEscaped.{ascii_utf8}
 use Rattle.esc_html.proofs.tag.as_str.Goals as goal
 
 pub from_utf8_unchecked-requires : goal.from_utf8_unchecked-requires

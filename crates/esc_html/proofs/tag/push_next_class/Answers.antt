@@ -1,5 +1,5 @@
 use Rattle.std.proofs.Common.{string_bytes}
-use Rattle.esc_html.proofs.EscapedRuns.{grows_by, grows_not, grows_same, grows_then}
+use Rattle.esc_html.proofs.Texts.RunsAreEscaped.{grows_by, grows_not, grows_same, grows_then}
 use Rattle.esc_html.proofs.tag.push_next_class.Goals as goal
 
 pub returns-in_err-push_str-clause-grown : goal.returns-in_err-push_str-clause-grown

@@ -1,6 +1,6 @@
 use Rattle.std.proofs.Common.{codes, false, string_bytes, refl, ap, ◌∙◌, ◌++◌}
-use Rattle.esc_html.proofs.Attributes.{tag_joined}
-use Rattle.esc_html.proofs.EscapedRuns.{ascii_utf8, grown_ok, grows_literal, grows_on, grows_same, grows_then}
+use Rattle.esc_html.proofs.Texts.AttributesAreWhole.{tag_joined}
+use Rattle.esc_html.proofs.Texts.RunsAreEscaped.{ascii_utf8, grown_ok, grows_literal, grows_on, grows_same, grows_then}
 use Rattle.esc_style.specs.Looks.{look_classes, look_styles, values_of}
 use Rattle.esc_html.specs.PageParts.{attributes_text, class_attribute, span_attributes, style_attribute}
 use Rattle.esc_html.proofs.tag.push_span.Goals as goal

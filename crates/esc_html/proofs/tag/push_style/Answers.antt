@@ -1,6 +1,6 @@
 use Rattle.std.proofs.Common.{string_bytes}
-use Rattle.esc_html.proofs.Encoded.{code_small}
-use Rattle.esc_html.proofs.EscapedRuns.{grows_by, grows_not, grows_on, grows_same}
+use Rattle.esc_html.proofs.Texts.EscapedBytesAreUtf8.{code_small}
+use Rattle.esc_html.proofs.Texts.RunsAreEscaped.{grows_by, grows_not, grows_on, grows_same}
 use Rattle.esc_style.specs.Styles.{style_color}
 use Rattle.esc_html.proofs.tag.push_style.Goals as goal
 

@@ -1,6 +1,6 @@
 use Rattle.std.proofs.Common.{string_bytes}
-use Rattle.esc_html.proofs.Attributes.{styles_grow, first_next}
-use Rattle.esc_html.proofs.EscapedRuns.{grows_then}
+use Rattle.esc_html.proofs.Texts.AttributesAreWhole.{styles_grow, first_next}
+use Rattle.esc_html.proofs.Texts.RunsAreEscaped.{grows_then}
 use Rattle.esc_html.proofs.tag.push_style_attribute.Goals as goal
 
 pub returns-in_err-is_first-clause-grown : goal.returns-in_err-is_first-clause-grown

@@ -1,5 +1,5 @@
 use Rattle.std.proofs.Common.{string_bytes}
-use Rattle.esc_html.proofs.EscapedRuns.{cut_back}
+use Rattle.esc_html.proofs.Texts.RunsAreEscaped.{cut_back}
 use Rattle.esc_html.proofs.writing.open_span.Goals as goal
 
 pub truncate-requires : goal.truncate-requires

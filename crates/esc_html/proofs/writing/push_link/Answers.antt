@@ -1,7 +1,7 @@
 use Rattle.std.proofs.Common.{codes, string_bytes, refl, ◌++◌}
 use Rattle.std.specs.List.{flat_map}
 use Rattle.esc_html.specs.PageParts.{escape_value}
-use Rattle.esc_html.proofs.EscapedRuns.{ascii_utf8, grown_ok, grows_literal, grows_on, grows_same, grows_then, three_joined}
+use Rattle.esc_html.proofs.Texts.RunsAreEscaped.{ascii_utf8, grown_ok, grows_literal, grows_on, grows_same, grows_then, three_joined}
 use Rattle.esc_html.proofs.writing.push_link.Goals as goal
 
 pub returns-in_err-push_str-clause-grown : goal.returns-in_err-push_str-clause-grown

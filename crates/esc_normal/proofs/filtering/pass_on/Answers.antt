@@ -1,5 +1,5 @@
 use Rattle.std.proofs.Common.{◌++◌, ap, refl, sym, ◌∙◌}
-use Rattle.esc_parse.proofs.Lists.{on_ok_more}
+use Rattle.esc_parse.proofs.Lists.StepsOverLists.{on_ok_more}
 use Rattle.std.proofs.lemmas.Result.{on_err_weaker}
 use Rattle.esc_normal.proofs.Results.{no_other, not_failed, other, prefix_none}
 use Rattle.esc_normal.specs.declared.filter_error.FilterError.TheVariants as fault

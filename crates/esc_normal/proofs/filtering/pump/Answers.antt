@@ -2,7 +2,7 @@ use Rattle.std.proofs.Common.{[], refl, rules, subst, sym, append-nil}
 use Rattle.std.proofs.KnownBytes.{Appends-nil, Consumes-nil}
 use Rattle.std.proofs.lemmas.Result.{on_err_weaker}
 use Rattle.std.specs.Io.KnownBytes.{Appends, Consumes}
-use Rattle.esc_parse.proofs.Lists.{on_ok_more}
+use Rattle.esc_parse.proofs.Lists.StepsOverLists.{on_ok_more}
 use Rattle.esc_normal.proofs.Results.{none_within, not_failed, ok_any, other, prefix_after, prefix_none, unfailed, written_more}
 use Rattle.esc_normal.specs.declared.filter_error.FilterError.TheVariants as fault
 use Rattle.esc_normal.proofs.filtering.pump.Goals as goal

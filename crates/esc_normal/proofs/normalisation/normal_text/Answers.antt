@@ -1,9 +1,9 @@
 use Rattle.std.proofs.Common.{◌++◌, [], ap, ◌∙◌}
 use Rattle.std.proofs.lemmas.Result.{IfErr-at_err}
-use Rattle.esc_actions.proofs.Meanings.{yield_whole}
+use Rattle.esc_actions.proofs.Meaning.MeaningsJoin.{yield_whole}
 use Rattle.esc_actions.specs.Meaning.{yield_within}
 use Rattle.esc_actions.specs.Texts.{list_text, texts_after}
-use Rattle.esc_parse.proofs.Lists.{on_ok_at}
+use Rattle.esc_parse.proofs.Lists.StepsOverLists.{on_ok_at}
 use Rattle.esc_normal.proofs.HaveTexts.{handed_out_have_texts}
 use Rattle.esc_normal.proofs.Spelling.{spells, stops_denied}
 use Rattle.esc_normal.proofs.normalisation.normal_text.Goals as goal

@@ -1,6 +1,6 @@
 use Rattle.std.proofs.Common.{[], append-nil, ap, sym, refl}
 use Rattle.std.proofs.lemmas.Result.{on_err_weaker}
-use Rattle.esc_actions.proofs.Meanings.{meaning_nil}
+use Rattle.esc_actions.proofs.Meaning.MeaningsJoin.{meaning_nil}
 use Rattle.esc_actions.specs.Texts.{list_text}
 use Rattle.esc_normal.proofs.Normalising.{prefix_of_had, written_all}
 use Rattle.esc_normal.specs.Normalising.{normal_form}

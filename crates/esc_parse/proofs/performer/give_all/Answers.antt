@@ -3,7 +3,7 @@ use Rattle.std.proofs.lemmas.Result.{err_from_is_err_and}
 use Rattle.std.specs.List.{FoldsTo}
 use Rattle.std.specs.Vec.Iter.{into_iter_items}
 use Rattle.esc_sequences.specs.Csis.{csi_value}
-use Rattle.esc_parse.proofs.Lists.{folds_more, match_err, nothing_left, stops_more}
+use Rattle.esc_parse.proofs.Lists.StepsOverLists.{folds_more, match_err, nothing_left, stops_more}
 use Rattle.std.proofs.Math.Logic.{⊎_map}
 use Rattle.esc_frame.proofs.Emits.MayAfterSome.{get_first, get_rest}
 use Rattle.std.proofs.lemmas.List.{map-append}

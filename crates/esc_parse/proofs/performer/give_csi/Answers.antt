@@ -1,4 +1,4 @@
-use Rattle.esc_parse.proofs.Lists.{StopsAt-weaker, awaits_seen, folds_seen, stops_seen}
+use Rattle.esc_parse.proofs.Lists.StepsOverLists.{StopsAt-weaker, awaits_seen, folds_seen, stops_seen}
 use Rattle.std.proofs.Math.Logic.{⊎_map}
 use Rattle.esc_parse.proofs.performer.give_csi.Goals as goal
 use Rattle.esc_actions.specs.Values.{csi, value_of}

@@ -2,7 +2,7 @@ use Rattle.std.proofs.Common.{arith, get_or, refl}
 use Rattle.esc_actions.specs.Values.{datum, value_of}
 use Rattle.esc_actions.specs.declared.action.Action.TheVariants as action
 use Rattle.esc_device.specs.declared.mode.DeviceControlMode.TheVariants as device
-use Rattle.esc_parse.proofs.TextRuns.{stops_next, takes_next}
+use Rattle.esc_parse.proofs.Runs.RunsOfText.{stops_next, takes_next}
 use Rattle.esc_frame.proofs.Emits.MayAfterSome.{get_each}
 use Rattle.std.proofs.Math.Logic.{⊎_map}
 use Rattle.esc_parse.specs.Given.{AnyAt}

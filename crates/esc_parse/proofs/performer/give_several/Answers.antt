@@ -1,6 +1,6 @@
 use Rattle.std.proofs.Common.{map, refl}
 use Rattle.esc_sequences.specs.Csis.{csi_of}
-use Rattle.esc_parse.proofs.Lists.{StopsAt-here}
+use Rattle.esc_parse.proofs.Lists.StepsOverLists.{StopsAt-here}
 use Rattle.esc_parse.proofs.performer.give_several.Goals as goal
 use Rattle.esc_parse.specs.Given.{At}
 use Rattle.esc_actions.specs.Values.{csi, value_of}

@@ -1,5 +1,5 @@
 use Rattle.std.proofs.Common.{Some, false, refl, subst, true}
-use Rattle.esc_parse.proofs.Lists.{on_ok_more}
+use Rattle.esc_parse.proofs.Lists.StepsOverLists.{on_ok_more}
 use Rattle.esc_sanitize.proofs.Auditing.{audited}
 use Rattle.esc_sanitize.proofs.Ending.{going_is, text_is, written_as}
 use Rattle.esc_sanitize.specs.Audits.{IsAudited}

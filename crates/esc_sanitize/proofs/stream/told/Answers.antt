@@ -1,5 +1,5 @@
 use Rattle.std.proofs.Common.{[], refl, subst, sym}
-use Rattle.esc_parse.proofs.Lists.{on_ok_more}
+use Rattle.esc_parse.proofs.Lists.StepsOverLists.{on_ok_more}
 use Rattle.esc_sanitize.proofs.Running.{run_closed, run_none}
 use Rattle.esc_sanitize.specs.Stages.{HasListened, IsRun, options_of}
 use Rattle.esc_sanitize.specs.Written.{going_of, text_of}

@@ -1,6 +1,6 @@
 use Rattle.std.proofs.Common.{◌<◌, length, get_or, set, ap, ◌∙◌, rules}
 use Rattle.esc_screen.specs.Cells.{drawn_cell}
-use Rattle.esc_screen.proofs.Free.{draw_more}
+use Rattle.esc_screen.proofs.Whole.RunWithoutWide.{draw_more}
 use Rattle.esc_screen.proofs.cells.draw.Goals as goal
 
 pub loop-i-preserved : goal.loop-i-preserved

@@ -1,4 +1,4 @@
-use Rattle.esc_screen.proofs.StaysSound.{begins_sound}
+use Rattle.esc_screen.proofs.Sound.StaysSound.{begins_sound}
 use Rattle.esc_screen.proofs.laws.begins_sound.Goals as goal
 
 pub returns : goal.returns

@@ -1,4 +1,4 @@
-use Rattle.esc_screen.proofs.StaysWhole.{begins_whole}
+use Rattle.esc_screen.proofs.Whole.GridsStayWhole.{begins_whole}
 use Rattle.esc_screen.proofs.laws.begins_whole.Goals as goal
 
 pub returns : goal.returns

@@ -1,4 +1,4 @@
-use Rattle.esc_screen.proofs.Runs.{in_chunks}
+use Rattle.esc_screen.proofs.Printing.RunsOfCharacters.{in_chunks}
 use Rattle.esc_screen.proofs.laws.goes_in_chunks.Goals as goal
 
 pub returns : goal.returns

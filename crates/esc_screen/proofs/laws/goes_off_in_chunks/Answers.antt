@@ -1,4 +1,4 @@
-use Rattle.esc_screen.proofs.Scrolling.{off_in_chunks}
+use Rattle.esc_screen.proofs.Scrolled.RowsScrolledOff.{off_in_chunks}
 use Rattle.esc_screen.proofs.laws.goes_off_in_chunks.Goals as goal
 
 pub returns : goal.returns

@@ -1,4 +1,4 @@
-use Rattle.esc_screen.proofs.Joined.{joins_once}
+use Rattle.esc_screen.proofs.Printing.RowGoesOnOnce.{joins_once}
 use Rattle.esc_screen.proofs.laws.joins_once.Goals as goal
 
 pub returns : goal.returns

@@ -1,4 +1,4 @@
-use Rattle.esc_screen.proofs.Logged.{keeps_log}
+use Rattle.esc_screen.proofs.Scrolled.LogOfPlainText.{keeps_log}
 use Rattle.esc_screen.proofs.laws.keeps_log.Goals as goal
 
 pub returns : goal.returns

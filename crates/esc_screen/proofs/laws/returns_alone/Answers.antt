@@ -1,4 +1,4 @@
-use Rattle.esc_screen.proofs.Returning.{returns_alone}
+use Rattle.esc_screen.proofs.Scrolled.LineFeedReturns.{returns_alone}
 use Rattle.esc_screen.proofs.laws.returns_alone.Goals as goal
 
 pub returns : goal.returns

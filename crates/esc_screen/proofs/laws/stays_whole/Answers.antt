@@ -1,4 +1,4 @@
-use Rattle.esc_screen.proofs.StaysWhole.{stays_whole}
+use Rattle.esc_screen.proofs.Whole.GridsStayWhole.{stays_whole}
 use Rattle.esc_screen.proofs.laws.stays_whole.Goals as goal
 
 pub returns : goal.returns

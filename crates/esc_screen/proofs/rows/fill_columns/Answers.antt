@@ -1,6 +1,6 @@
 use Rattle.std.proofs.Common.{map, take, drop, ◌++◌, ◌-◌, ◌<◌, ◌≤◌, length, get_or, set, ap, sym, ◌∙◌, arith, rules}
 use Rattle.esc_screen.specs.Cells.{filled_part}
-use Rattle.esc_screen.proofs.Middles.{change_more}
+use Rattle.esc_screen.proofs.Printing.MiddlesOfRows.{change_more}
 use Rattle.esc_screen.proofs.rows.fill_columns.Goals as goal
 
 pub loop-i-preserved : goal.loop-i-preserved

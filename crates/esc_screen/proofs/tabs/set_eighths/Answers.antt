@@ -1,6 +1,6 @@
 use Rattle.std.proofs.Common.{◌<◌, ◌≤◌, ◌%◌, ◌==◌, length, set, ap, ◌∙◌, arith, rules}
 use Rattle.esc_screen.specs.Cursors.{eighths}
-use Rattle.esc_screen.proofs.Stops.{all_of_it, eighth_more, length_eighths}
+use Rattle.esc_screen.proofs.Sound.TabStops.{all_of_it, eighth_more, length_eighths}
 use Rattle.esc_screen.proofs.tabs.set_eighths.Goals as goal
 
 pub loop-i-preserved : goal.loop-i-preserved

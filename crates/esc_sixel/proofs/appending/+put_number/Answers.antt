@@ -1,8 +1,8 @@
 use Rattle.std.proofs.Common.{◌/◌, ◌<◌, ◌∙◌, ◌∷◌, ◌^◌, [], ap, arith, length, length-append}
 use Rattle.std.specs.Fmt.{decimal}
 use Rattle.std.proofs.lemmas.Fmt.{decimal_step, length-decimal-le}
-use Rattle.esc_values.proofs.Digits.{decimal_one}
-use Rattle.esc_sixel.proofs.Gathered.{puts_more}
+use Rattle.esc_values.proofs.Numbers.AtMostThreeDigits.{decimal_one}
+use Rattle.esc_sixel.proofs.Writing.TextIsGathered.{puts_more}
 use Rattle.esc_sixel.proofs.appending.+put_number.Goals as goal
 
 pub returns-then-number-lt10-clause-place : goal.returns-then-number-lt10-clause-place

@@ -1,5 +1,5 @@
 use Rattle.std.proofs.Common.{◌∙◌, append-nil, arith, sym}
-use Rattle.esc_sixel.proofs.Gathered.{stuck, text_more, zeros_ascii}
+use Rattle.esc_sixel.proofs.Writing.TextIsGathered.{stuck, text_more, zeros_ascii}
 use Rattle.esc_sixel.proofs.appending.append_content.Goals as goal
 
 pub runs-init : goal.runs-init

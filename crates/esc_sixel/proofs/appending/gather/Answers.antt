@@ -1,6 +1,6 @@
 use Rattle.std.proofs.Common.{◌+◌, ◌++◌, ◌∙◌, [], ap, refl, arith, subst, sym, take}
 use Rattle.std.specs.Str.{IsAscii}
-use Rattle.esc_sixel.proofs.Gathered.{one_more, text_more}
+use Rattle.esc_sixel.proofs.Writing.TextIsGathered.{one_more, text_more}
 use Rattle.esc_sixel.specs.Texts.{data_text}
 use Rattle.esc_sixel.proofs.appending.gather.Goals as goal
 

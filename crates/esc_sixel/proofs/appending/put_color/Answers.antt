@@ -1,6 +1,6 @@
 use Rattle.std.proofs.Common.{◌∷◌, ◌++◌, [], sym}
 use Rattle.std.specs.Fmt.{decimal}
-use Rattle.esc_sixel.proofs.Gathered.{puts_more}
+use Rattle.esc_sixel.proofs.Writing.TextIsGathered.{puts_more}
 use Rattle.esc_sixel.proofs.appending.put_color.Goals as goal
 
 pub returns-clause-puts : goal.returns-clause-puts

@@ -1,5 +1,5 @@
 use Rattle.std.proofs.Common.{rules, ◌<◌, length}
-use Rattle.esc_sixel.proofs.Extents.{walked}
+use Rattle.esc_sixel.proofs.Bytes.CountersStep.{walked}
 use Rattle.esc_sixel.proofs.dimensions.measure.Goals as goal
 
 pub loop-item-preserved : goal.loop-item-preserved

@@ -1,4 +1,4 @@
-use Rattle.esc_sixel.proofs.Handed.{data_is_writable}
+use Rattle.esc_sixel.proofs.Writing.ReadIsWritable.{data_is_writable}
 use Rattle.esc_sixel.proofs.laws.data_is_writable.Goals as goal
 
 pub returns : goal.returns

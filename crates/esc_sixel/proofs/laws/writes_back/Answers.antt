@@ -1,4 +1,4 @@
-use Rattle.esc_sixel.proofs.WritesBack.{writes_back}
+use Rattle.esc_sixel.proofs.Writing.WritesBack.{writes_back}
 use Rattle.esc_sixel.proofs.laws.writes_back.Goals as goal
 
 pub returns : goal.returns

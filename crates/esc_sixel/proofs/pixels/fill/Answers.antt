@@ -1,7 +1,7 @@
 use Rattle.std.proofs.Common.{◌∙◌, ◌++◌, ap, arith, refl}
 use Rattle.std.proofs.lemmas.List.{take_all}
 use Rattle.esc_sixel.specs.Meaning.{drawn_data}
-use Rattle.esc_sixel.proofs.PixelRuns.{drawn_more, drawn_one, some_pixels}
+use Rattle.esc_sixel.proofs.Runs.RunsOfPixels.{drawn_more, drawn_one, some_pixels}
 use Rattle.esc_sixel.proofs.pixels.fill.Goals as goal
 
 pub by_block-preserved : goal.by_block-preserved

@@ -1,5 +1,5 @@
 use Rattle.std.proofs.Common.{arith}
-use Rattle.esc_sixel.proofs.PixelRuns.{joined, one_more}
+use Rattle.esc_sixel.proofs.Runs.RunsOfPixels.{joined, one_more}
 use Rattle.esc_sixel.proofs.pixels.pixels_run.Goals as goal
 
 pub returns-then-run-lt16-clause-run : goal.returns-then-run-lt16-clause-run

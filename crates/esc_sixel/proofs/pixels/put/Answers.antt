@@ -1,5 +1,5 @@
 use Rattle.std.proofs.Common.{◌∙◌, arith}
-use Rattle.esc_sixel.proofs.PixelRuns.{last_set}
+use Rattle.esc_sixel.proofs.Runs.RunsOfPixels.{last_set}
 use Rattle.esc_sixel.specs.declared.sixel_data.SixelData.TheVariants.{Data}
 use Rattle.esc_sixel.proofs.pixels.put.Goals as goal
 

@@ -1,6 +1,6 @@
 use Rattle.std.proofs.Common.{◌∙◌, ◌++◌, ◌∷◌, [], ap, append_assoc, arith, get_or}
 use Rattle.esc_sixel.specs.declared.sixel_data.SixelData.TheVariants.{Data}
-use Rattle.esc_sixel.proofs.PixelRuns.{eight}
+use Rattle.esc_sixel.proofs.Runs.RunsOfPixels.{eight}
 use Rattle.esc_sixel.proofs.pixels.put_block.Goals as goal
 
 pub returns : goal.returns

@@ -1,5 +1,5 @@
 use Rattle.std.proofs.Common.{◌∙◌, ◌++◌, ap, append-nil, arith, sym}
-use Rattle.esc_sixel.proofs.PixelRuns.{four, put_more}
+use Rattle.esc_sixel.proofs.Runs.RunsOfPixels.{four, put_more}
 use Rattle.esc_sixel.proofs.pixels.put_four.Goals as goal
 
 pub returns : goal.returns

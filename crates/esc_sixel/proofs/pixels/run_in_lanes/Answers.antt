@@ -4,7 +4,7 @@ use Rattle.std.proofs.lemmas.Simd.{zip2_splat, length-chunk, zip2_of_maps, splat
 use lib.Lanes.{chunk}
 use Rattle.std.specs.List.{prefix_len}
 use Rattle.esc_sixel.specs.Classes.{is_pixels}
-use Rattle.esc_sixel.proofs.PixelRuns.{lowest_lane, passed}
+use Rattle.esc_sixel.proofs.Runs.RunsOfPixels.{lowest_lane, passed}
 use Rattle.esc_sixel.proofs.pixels.run_in_lanes.Goals as goal
 
 pub returns : goal.returns

@@ -1,7 +1,7 @@
 use Rattle.std.proofs.Common.{◌∙◌, ap, map, refl, take}
 use Rattle.std.proofs.lemmas.Simd.{length-chunk, zip2_splat}
 use Rattle.esc_sixel.specs.declared.sixel_data.SixelData.TheVariants.{Data}
-use Rattle.esc_sixel.proofs.PixelRuns.{block_drawn}
+use Rattle.esc_sixel.proofs.Runs.RunsOfPixels.{block_drawn}
 use Rattle.esc_sixel.proofs.pixels.values_of.Goals as goal
 
 pub returns : goal.returns

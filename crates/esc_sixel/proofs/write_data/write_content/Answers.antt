@@ -2,7 +2,7 @@ use Rattle.std.proofs.Common.{true, ◌++◌, ◌∙◌, [], refl, take, arith}
 use Rattle.std.proofs.lemmas.Grind.{put_two}
 use Rattle.core.proofs.fmt.Output.{writes_in_calls_nil}
 use Rattle.esc_sixel.specs.Texts.{content_text}
-use Rattle.esc_sixel.proofs.Gathered.{text_more, zeros_ascii}
+use Rattle.esc_sixel.proofs.Writing.TextIsGathered.{text_more, zeros_ascii}
 use Rattle.esc_sixel.proofs.write_data.write_content.Goals as goal
 
 pub runs-init : goal.runs-init

@@ -1,6 +1,6 @@
 use Rattle.esc_terminal.specs.Streams.{values_of}
 use Rattle.esc_terminal.proofs.Streams.{stays_sound_after}
-use Rattle.esc_screen.proofs.StaysSound.{begins_sound}
+use Rattle.esc_screen.proofs.Sound.StaysSound.{begins_sound}
 use Rattle.esc_terminal.proofs.laws.is_always_sound.Goals as goal
 
 pub returns : goal.returns

@@ -1,6 +1,6 @@
 use Rattle.std.proofs.Common.{sym, ap, ◌∙◌, arith}
 use Rattle.std.specs.Result.{result_ok}
-use Rattle.esc_values.proofs.Engine.{decode_agree}
+use Rattle.esc_values.proofs.Codecs.EnginesDecodeAlike.{decode_agree}
 use Rattle.esc_values.proofs.base64_text.read_base64.Goals as goal
 
 pub returns-in-Ok-clause-ok : goal.returns-in-Ok-clause-ok

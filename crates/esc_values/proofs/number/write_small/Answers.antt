@@ -1,7 +1,7 @@
 use Rattle.std.proofs.Common.{rules, arith, ◌+◌, ◌/◌, ◌%◌, ◌∷◌, [], sym}
 use Rattle.std.specs.Fmt.{HasWritten, decimal}
 use Rattle.std.proofs.lemmas.Grind.{put_three}
-use Rattle.esc_values.proofs.Digits.{decimal_three}
+use Rattle.esc_values.proofs.Numbers.AtMostThreeDigits.{decimal_three}
 use Rattle.esc_values.proofs.number.write_small.Goals as goal
 
 pub returns-in_ok-write_digit-2 : goal.returns-in_ok-write_digit-2

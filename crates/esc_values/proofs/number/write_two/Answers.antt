@@ -1,7 +1,7 @@
 use Rattle.std.proofs.Common.{rules, arith, ◌+◌, ◌/◌, ◌%◌, ◌∷◌, [], sym}
 use Rattle.std.specs.Fmt.{HasWritten, decimal}
 use Rattle.std.proofs.lemmas.Grind.{put_two}
-use Rattle.esc_values.proofs.Digits.{decimal_two}
+use Rattle.esc_values.proofs.Numbers.AtMostThreeDigits.{decimal_two}
 use Rattle.esc_values.proofs.number.write_two.Goals as goal
 
 pub returns : goal.returns

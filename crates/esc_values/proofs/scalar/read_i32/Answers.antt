@@ -1,7 +1,7 @@
 use Rattle.std.proofs.Common.{◌∙◌, sym, ap}
 use mir.Syntax.Width.{w32}
 use Rattle.esc_values.specs.Scalars.{signed_of}
-use Rattle.esc_values.proofs.Signed.{signed_from_parse, signed_none}
+use Rattle.esc_values.proofs.Numbers.SignedReadsBack.{signed_from_parse, signed_none}
 use Rattle.esc_values.proofs.scalar.read_i32.Goals as goal
 
 pub returns-in_default : goal.returns-in_default

@@ -1,6 +1,6 @@
 use Rattle.std.proofs.Common.{◌∙◌, sym, ap}
 use Rattle.esc_values.specs.Scalars.{number_of}
-use Rattle.esc_values.proofs.Numbers.{number_from_parse, number_none}
+use Rattle.esc_values.proofs.Numbers.ParseIsNumber.{number_from_parse, number_none}
 use Rattle.esc_values.proofs.scalar.read_u32.Goals as goal
 
 pub returns-in_default : goal.returns-in_default

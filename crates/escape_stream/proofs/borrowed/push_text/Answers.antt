@@ -3,7 +3,7 @@ use Rattle.std.proofs.lemmas.List.{append-nil}
 use Rattle.std.proofs.lemmas.Str.{IsUtf8-past_char, chars-nil, chars_past_char}
 use Rattle.std.specs.Str.Iter.{chars_rest}
 use Rattle.esc_actions.specs.Values.{print, value_of}
-use Rattle.esc_parse.proofs.Lists.{nothing_left}
+use Rattle.esc_parse.proofs.Lists.StepsOverLists.{nothing_left}
 use Rattle.escape_stream.proofs.Appended.{pushed, shorter}
 use Rattle.escape_stream.proofs.borrowed.push_text.Goals as goal
 

@@ -2,7 +2,7 @@ use Rattle.std.proofs.Common.{chars, ap, sym, ◌∙◌}
 use Rattle.std.specs.List.{list_all}
 use Rattle.std.proofs.lemmas.Str.{IsUtf8-past_char, chars-nil, chars_past_char}
 use Rattle.esc_values.specs.Clear.{is_clear}
-use Rattle.esc_parse.proofs.Lists.{nothing_left}
+use Rattle.esc_parse.proofs.Lists.StepsOverLists.{nothing_left}
 use Rattle.escape_stream.proofs.clear.are_clear.Goals as goal
 
 pub returns-then-not-is_clear : goal.returns-then-not-is_clear

@@ -1,8 +1,8 @@
 use Rattle.std.proofs.Common.{None, ◌<◌, map, take, length, flat_map, sym, ap, subst, ◌∙◌, arith}
 use Rattle.std.proofs.lemmas.Result.{IfErr-at_err, IfOk-at_ok, err_from_is_err_and}
-use Rattle.esc_parse.proofs.Lists.{if_err_is, input_chunks_more, stops_wanting}
-use Rattle.esc_actions.proofs.Meanings.{meaning_by, meaning_nil}
-use Rattle.esc_parse.proofs.Yields.{collects}
+use Rattle.esc_parse.proofs.Lists.StepsOverLists.{if_err_is, input_chunks_more, stops_wanting}
+use Rattle.esc_actions.proofs.Meaning.MeaningsJoin.{meaning_by, meaning_nil}
+use Rattle.esc_parse.proofs.Values.EventsGiveValues.{collects}
 use Rattle.escape_stream.proofs.input_chunks.join_chunks.Goals as goal
 use Rattle.esc_parse.specs.Fed.{ParserHasConsumed}
 use Rattle.esc_actions.specs.Meaning.{meaning}

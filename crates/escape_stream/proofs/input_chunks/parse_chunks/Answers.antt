@@ -1,5 +1,5 @@
-use Rattle.esc_actions.proofs.Headlines.{at_meaning}
-use Rattle.esc_parse.proofs.Lists.{if_ok_more, is_ok_unless}
+use Rattle.esc_actions.proofs.Meaning.MeetsHeadline.{at_meaning}
+use Rattle.esc_parse.proofs.Lists.StepsOverLists.{if_ok_more, is_ok_unless}
 use Rattle.escape_stream.proofs.input_chunks.parse_chunks.Goals as goal
 
 pub returns-clause-returned : goal.returns-clause-returned

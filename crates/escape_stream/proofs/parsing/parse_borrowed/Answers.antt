@@ -1,6 +1,6 @@
 use Rattle.std.proofs.Common.{inl, inr, rules}
 use Rattle.std.proofs.Math.Logic.{⊎_map}
-use Rattle.esc_parse.proofs.Lists.{if_err_parts, on_ok_second}
+use Rattle.esc_parse.proofs.Lists.StepsOverLists.{if_err_parts, on_ok_second}
 use Rattle.escape_stream.proofs.Lent.{awaits_through, gets_through, stops_through}
 use Rattle.escape_stream.specs.BorrowedCalls.{CallsOn, MayCallOn}
 use Rattle.escape_stream.proofs.parsing.parse_borrowed.Goals as goal

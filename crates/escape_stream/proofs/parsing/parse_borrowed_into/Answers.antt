@@ -1,6 +1,6 @@
 use Rattle.std.proofs.Common.{ap, inl, inr, subst, sym, ◌∙◌}
 use Rattle.std.proofs.Math.Logic.{⊎_map}
-use Rattle.esc_parse.proofs.Lists.{if_err_third, on_ok_more, on_ok_second}
+use Rattle.esc_parse.proofs.Lists.StepsOverLists.{if_err_third, on_ok_more, on_ok_second}
 use Rattle.esc_actions.specs.Meaning.{yield_within}
 use Rattle.escape_stream.proofs.Lent.{gets_lent, may_lend, stops_lent}
 use Rattle.escape_stream.proofs.parsing.parse_borrowed_into.Goals as goal

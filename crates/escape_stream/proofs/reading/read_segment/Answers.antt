@@ -2,8 +2,8 @@ use Rattle.std.proofs.Common.{◌++◌, ap, map, ◌∙◌, None}
 use Rattle.esc_frame.specs.Segments.{events_of}
 use Rattle.esc_actions.specs.Readings.{reading}
 use Rattle.esc_actions.specs.Values.{plain, value_of}
-use Rattle.esc_parse.proofs.Lists.{stops_wanting}
-use Rattle.esc_parse.proofs.Yields.{collects, performs, performs_segment}
+use Rattle.esc_parse.proofs.Lists.StepsOverLists.{stops_wanting}
+use Rattle.esc_parse.proofs.Values.EventsGiveValues.{collects, performs, performs_segment}
 use Rattle.escape_stream.proofs.reading.read_segment.Goals as goal
 
 pub returns-in-Ok-clause-ok : goal.returns-in-Ok-clause-ok

@@ -1,7 +1,7 @@
 use Rattle.std.proofs.Common.{ap, ◌∙◌}
 use Rattle.esc_actions.specs.Meaning.{meaning}
 use Rattle.escape_stream.proofs.Backs.{means_first}
-use Rattle.esc_parse.proofs.Lists.{if_ok_more}
+use Rattle.esc_parse.proofs.Lists.StepsOverLists.{if_ok_more}
 use Rattle.escape_stream.proofs.reading_back.first_meant.Goals as goal
 use Rattle.esc_parse.specs.Firsts.{first}
 

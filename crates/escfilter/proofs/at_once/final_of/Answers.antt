@@ -1,6 +1,6 @@
 use Rattle.std.proofs.Common.{arith, refl, sym, ◌∙◌}
-use Rattle.esc_account.proofs.Ended.{first_shape}
-use Rattle.esc_account.proofs.ShortSequences.{short_told}
+use Rattle.esc_account.proofs.Segments.EscapeEndsSegment.{first_shape}
+use Rattle.esc_account.proofs.Segments.ShortSequenceEvent.{short_told}
 use Rattle.esc_frame.specs.Segments.{joined_bytes}
 use Rattle.escfilter.proofs.AtOnce.{sequence_reading}
 use Rattle.escfilter.proofs.at_once.final_of.Goals as goal

@@ -1,7 +1,7 @@
 use Rattle.std.proofs.Common.{◌++◌, true, false, ap, ◌∙◌}
 use Rattle.esc_decode.specs.Decodings.{decoded_stream, through}
 use Rattle.esc_filter.specs.declared.admit.Admit.{Ghosts as Admitter}
-use Rattle.caret_notation.proofs.Begins.{through_nothing}
+use Rattle.caret_notation.proofs.Filters.BeginsAsOneFilter.{through_nothing}
 use Rattle.caret_notation.specs.Through.{through as revealed_through, through_whole}
 use Rattle.eschtml.specs.Joined.{through_joined}
 use Rattle.eschtml.specs.Written.{is_kept, seen_by}

@@ -1,6 +1,6 @@
 use Rattle.std.proofs.Common.{ap, sym, ◌∙◌}
 use Rattle.std.specs.Option.{option_map}
-use Rattle.esc_parse.proofs.Lists.{if_ok_more}
+use Rattle.esc_parse.proofs.Lists.StepsOverLists.{if_ok_more}
 use Rattle.line_collapse.proofs.Closing.{closes_shown, has_screen, has_styles}
 use Rattle.line_collapse.proofs.collapse.closed.Goals as goal
 

@@ -1,7 +1,7 @@
 use Rattle.std.proofs.Common.{chars}
 use Rattle.bench.proofs.Anything.{anything_run}
 use Rattle.esc_frame.specs.Events.Event.{Print}
-use Rattle.esc_parse.proofs.TextRuns.{some_chars}
+use Rattle.esc_parse.proofs.Runs.RunsOfText.{some_chars}
 use Rattle.bench.proofs.count.CountVTActor.print_str.Goals as goal
 
 pub returns-clause-emitted : goal.returns-clause-emitted

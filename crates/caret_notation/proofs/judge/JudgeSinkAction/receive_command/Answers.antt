@@ -2,7 +2,7 @@ use Rattle.std.proofs.Common.{[], ◌∷◌, sym, subst, rules}
 use Rattle.std.specs.List.{FoldsTo}
 use Rattle.esc_parse.specs.Given.{By}
 use Rattle.esc_values.specs.Clear.{parts_of}
-use Rattle.caret_notation.proofs.Judging.{Asks, IsCommand, command_taken}
+use Rattle.caret_notation.proofs.Filters.VerdictOfJudge.{Asks, IsCommand, command_taken}
 use Rattle.caret_notation.proofs.judge.JudgeSinkAction.receive_command.Goals as goal
 
 pub returns-clause-given : goal.returns-clause-given

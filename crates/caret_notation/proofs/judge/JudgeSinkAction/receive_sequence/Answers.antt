@@ -2,7 +2,7 @@ use Rattle.std.proofs.Common.{Some, ap, sym, subst, rules}
 use Rattle.std.specs.List.{FoldsTo}
 use Rattle.esc_parse.specs.Given.{By}
 use Rattle.esc_sequences.specs.Csis.{csi_of}
-use Rattle.caret_notation.proofs.Judging.{Asks, IsSequence, sequence_taken}
+use Rattle.caret_notation.proofs.Filters.VerdictOfJudge.{Asks, IsSequence, sequence_taken}
 use Rattle.caret_notation.proofs.judge.JudgeSinkAction.receive_sequence.Goals as goal
 
 pub returns-clause-given : goal.returns-clause-given

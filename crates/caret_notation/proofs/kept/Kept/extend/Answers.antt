@@ -1,6 +1,6 @@
 use Rattle.std.proofs.Common.{rules, subst, sym, ◌++◌}
 use Rattle.esc_filter.proofs.Results.{pushed}
-use Rattle.caret_notation.proofs.Showing.{extends_over, extends_whole, long_of}
+use Rattle.caret_notation.proofs.VisibleText.ShownInTurn.{extends_over, extends_whole, long_of}
 use Rattle.caret_notation.specs.Grown.{KeepsBy}
 use Rattle.caret_notation.proofs.kept.Kept.extend.Goals as goal
 

@@ -1,5 +1,5 @@
 use Rattle.std.proofs.Common.{[], ap, ◌++◌, ◌∙◌}
-use Rattle.caret_notation.proofs.Showing.{overflows}
+use Rattle.caret_notation.proofs.VisibleText.ShownInTurn.{overflows}
 use Rattle.caret_notation.specs.Visible.{begun_after, settled_text}
 use Rattle.caret_notation.proofs.kept.Kept.overflow.Goals as goal
 

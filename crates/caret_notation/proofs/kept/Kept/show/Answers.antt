@@ -1,5 +1,5 @@
 use Rattle.std.proofs.Common.{◌++◌, ap, ◌∙◌, subst}
-use Rattle.caret_notation.proofs.Showing.{shows_over, shows_whole}
+use Rattle.caret_notation.proofs.VisibleText.ShownInTurn.{shows_over, shows_whole}
 use Rattle.caret_notation.specs.Grown.{KeepsBy}
 use Rattle.caret_notation.specs.Visible.{shown_text}
 use Rattle.caret_notation.proofs.kept.Kept.show.Goals as goal

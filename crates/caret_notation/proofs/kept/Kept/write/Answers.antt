@@ -1,5 +1,5 @@
 use Rattle.std.proofs.Common.{◌++◌, ap, ◌∙◌}
-use Rattle.caret_notation.proofs.Showing.{writes_whole}
+use Rattle.caret_notation.proofs.VisibleText.ShownInTurn.{writes_whole}
 use Rattle.caret_notation.proofs.kept.Kept.write.Goals as goal
 
 pub returns-clause-given : goal.returns-clause-given

@@ -1,6 +1,6 @@
 use Rattle.std.proofs.Common.{◌∷◌, []}
 use Rattle.esc_filter.proofs.Results.{pushed}
-use Rattle.caret_notation.proofs.StreamFilter.{at_text, line_grows}
+use Rattle.caret_notation.proofs.Streams.TextOfFedBytes.{at_text, line_grows}
 use Rattle.caret_notation.specs.Fed.{added_by}
 use Rattle.caret_notation.proofs.reveal.Reveal.end_line.Goals as goal
 

@@ -1,5 +1,5 @@
 use Rattle.std.proofs.Common.{◌++◌, sym, subst}
-use Rattle.caret_notation.proofs.StreamFilter.{adds_all, at_text}
+use Rattle.caret_notation.proofs.Streams.TextOfFedBytes.{adds_all, at_text}
 use Rattle.caret_notation.specs.Fed.{AtRest, GrowsBy, added_by}
 use Rattle.caret_notation.specs.Spans.{rest}
 use Rattle.caret_notation.proofs.reveal.Reveal.feed.Goals as goal

@@ -1,5 +1,5 @@
 use Rattle.std.proofs.Common.{subst}
-use Rattle.caret_notation.proofs.StreamFilter.{at_text, ends_all}
+use Rattle.caret_notation.proofs.Streams.TextOfFedBytes.{at_text, ends_all}
 use Rattle.caret_notation.specs.Fed.{added_by}
 use Rattle.caret_notation.specs.Grown.{Grows}
 use Rattle.caret_notation.specs.Spans.{rest}

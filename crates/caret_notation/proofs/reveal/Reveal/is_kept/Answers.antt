@@ -2,7 +2,7 @@ use Rattle.std.proofs.Common.{ℕ, Bool, List, ◌&&◌, true, false, Some, ap, 
 use Rattle.esc_actions.specs.Meaning.{meaning_within}
 use Rattle.esc_frame.specs.Stream.{HasConsumedWithin}
 use Rattle.esc_normal.specs.Normalising.{normal_form}
-use Rattle.esc_parse.proofs.Lists.{if_ok_more}
+use Rattle.esc_parse.proofs.Lists.StepsOverLists.{if_ok_more}
 use Rattle.caret_notation.specs.Revealed.{are_kept}
 use Rattle.caret_notation.specs.Spelled.{is_spelled}
 use Rattle.caret_notation.specs.Visible.{lets_stay}

@@ -1,4 +1,4 @@
-use Rattle.caret_notation.proofs.Quiet.{feedless_before, feedless_all}
+use Rattle.caret_notation.proofs.Spans.MoreOfSpan.{feedless_before, feedless_all}
 use Rattle.caret_notation.proofs.reveal.Reveal.open_run.Goals as goal
 
 pub returns-in-Some-clause-lineless : goal.returns-in-Some-clause-lineless

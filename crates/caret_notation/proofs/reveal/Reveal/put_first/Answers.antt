@@ -1,8 +1,8 @@
 use Rattle.std.proofs.Common.{◌++◌, [], Some, ap, sym, ◌∙◌}
-use Rattle.esc_parse.proofs.Lists.{on_ok_more}
+use Rattle.esc_parse.proofs.Lists.StepsOverLists.{on_ok_more}
 use Rattle.esc_filter.proofs.Results.{pushed}
-use Rattle.caret_notation.proofs.StreamFilter.{at_once, end_grows, more_grows, shown_as, stays_as}
-use Rattle.caret_notation.proofs.Ground.{ground_test}
+use Rattle.caret_notation.proofs.Streams.TextOfFedBytes.{at_once, end_grows, more_grows, shown_as, stays_as}
+use Rattle.caret_notation.proofs.Spans.GroundIsTested.{ground_test}
 use Rattle.caret_notation.specs.Fed.{added_by}
 use Rattle.caret_notation.proofs.reveal.Reveal.put_first.Goals as goal
 

@@ -1,5 +1,5 @@
 use Rattle.std.proofs.Common.{Some}
-use Rattle.esc_parse.proofs.Lists.{on_ok_more}
+use Rattle.esc_parse.proofs.Lists.StepsOverLists.{on_ok_more}
 use Rattle.caret_notation.proofs.reveal.Reveal.show.Goals as goal
 
 pub returns-clause-given : goal.returns-clause-given

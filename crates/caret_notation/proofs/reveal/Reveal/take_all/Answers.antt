@@ -1,7 +1,7 @@
 use Rattle.std.proofs.Common.{arith, ◌-◌, List, ℕ, length, take, drop, ◌∙◌, subst}
 use Rattle.esc_frame.proofs.ByteRuns.CsiRuns.{run_joins}
 use Rattle.esc_frame.proofs.ByteRuns.ManyBytes.{tail_length}
-use Rattle.caret_notation.proofs.StreamFilter.{grown_more}
+use Rattle.caret_notation.proofs.Streams.TextOfFedBytes.{grown_more}
 use Rattle.caret_notation.specs.Fed.{GrowsBy, added_by}
 use Rattle.caret_notation.specs.Spans.{rest_after}
 use Rattle.caret_notation.proofs.reveal.Reveal.take_all.Goals as goal

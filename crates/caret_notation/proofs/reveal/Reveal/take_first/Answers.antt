@@ -1,7 +1,7 @@
 use Rattle.std.proofs.Common.{rules, arith, subst, sym, take}
 use Rattle.std.proofs.lemmas.Grind.{common_steps}
-use Rattle.caret_notation.proofs.Judging.{on_any}
-use Rattle.caret_notation.proofs.Quiet.{part_to}
+use Rattle.caret_notation.proofs.Filters.VerdictOfJudge.{on_any}
+use Rattle.caret_notation.proofs.Spans.MoreOfSpan.{part_to}
 use Rattle.caret_notation.specs.Fed.{AtRest, GrowsTo}
 use Rattle.caret_notation.proofs.reveal.Reveal.take_first.Goals as goal
 

@@ -1,7 +1,7 @@
 use Rattle.std.proofs.Common.{Some, arith, rules}
 use Rattle.std.proofs.lemmas.Grind.{common_steps}
-use Rattle.caret_notation.proofs.Judging.{on_any}
-use Rattle.caret_notation.proofs.Quiet.{part_of}
+use Rattle.caret_notation.proofs.Filters.VerdictOfJudge.{on_any}
+use Rattle.caret_notation.proofs.Spans.MoreOfSpan.{part_of}
 use Rattle.caret_notation.proofs.reveal.Reveal.take_more.Goals as goal
 
 pub returns : goal.returns

@@ -1,8 +1,8 @@
 use Rattle.std.proofs.Common.{arith, ◌≡◌, ◌-◌, List, ℕ, false, length, take, drop, sym, ◌∙◌, rules, subst}
 use Rattle.esc_frame.proofs.ByteRuns.CsiRuns.{run_joins}
 use Rattle.esc_frame.proofs.ByteRuns.ManyBytes.{tail_length}
-use Rattle.caret_notation.proofs.StreamFilter.{grown_more}
-use Rattle.caret_notation.proofs.Quiet.{open_later}
+use Rattle.caret_notation.proofs.Streams.TextOfFedBytes.{grown_more}
+use Rattle.caret_notation.proofs.Spans.MoreOfSpan.{open_later}
 use Rattle.caret_notation.specs.Fed.{GrowsBy, added_by}
 use Rattle.caret_notation.specs.Spans.{rest_after}
 use Rattle.caret_notation.specs.Runs.{has_line_end}

@@ -1,6 +1,6 @@
 use Rattle.std.proofs.Common.{rules, arith, ◌≡◌, true, take}
 use Rattle.std.proofs.lemmas.Grind.{common_steps}
-use Rattle.caret_notation.proofs.StreamFilter.{at_text, text_grows}
+use Rattle.caret_notation.proofs.Streams.TextOfFedBytes.{at_text, text_grows}
 use Rattle.caret_notation.specs.Fed.{added_by}
 use Rattle.caret_notation.proofs.reveal.Reveal.take_some.Goals as goal
 

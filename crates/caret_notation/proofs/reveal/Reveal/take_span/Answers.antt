@@ -1,8 +1,8 @@
 use Rattle.std.proofs.Common.{◌++◌, Some, sym, ◌∙◌}
-use Rattle.esc_parse.proofs.Lists.{on_ok_more}
-use Rattle.caret_notation.proofs.Cutting.{grows_then}
-use Rattle.caret_notation.proofs.StreamFilter.{end_grows, more_grows}
-use Rattle.caret_notation.proofs.Ground.{ground_test}
+use Rattle.esc_parse.proofs.Lists.StepsOverLists.{on_ok_more}
+use Rattle.caret_notation.proofs.Spans.SpansGrow.{grows_then}
+use Rattle.caret_notation.proofs.Streams.TextOfFedBytes.{end_grows, more_grows}
+use Rattle.caret_notation.proofs.Spans.GroundIsTested.{ground_test}
 use Rattle.caret_notation.specs.Fed.{added_by, closed_text}
 use Rattle.caret_notation.specs.Visible.{rest_text}
 use Rattle.caret_notation.proofs.reveal.Reveal.take_span.Goals as goal

@@ -1,5 +1,5 @@
-use Rattle.caret_notation.proofs.Marks.{nothing_stays}
-use Rattle.caret_notation.proofs.Texts.{none_admitted}
+use Rattle.caret_notation.proofs.Spans.CharactersAreSpans.{none_admitted}
+use Rattle.caret_notation.proofs.Spans.RunsWithoutMark.{nothing_stays}
 use Rattle.caret_notation.proofs.reveal.Reveal.text_run.Goals as goal
 
 pub returns-then-self-lt-MOST_BYTES-clause-text : goal.returns-then-self-lt-MOST_BYTES-clause-text

@@ -1,4 +1,4 @@
-use Rattle.caret_notation.proofs.Through.{through_begins}
+use Rattle.caret_notation.proofs.Filters.FilterOfRevealed.{through_begins}
 use Rattle.caret_notation.proofs.revealing.Revealing.new.Goals as goal
 
 pub returns-clause-begins : goal.returns-clause-begins

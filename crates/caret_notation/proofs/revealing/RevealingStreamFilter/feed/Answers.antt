@@ -1,4 +1,4 @@
-use Rattle.caret_notation.proofs.Through.{through_more}
+use Rattle.caret_notation.proofs.Filters.FilterOfRevealed.{through_more}
 use Rattle.caret_notation.proofs.revealing.RevealingStreamFilter.feed.Goals as goal
 
 pub returns-in_err-feed-clause-longer : goal.returns-in_err-feed-clause-longer

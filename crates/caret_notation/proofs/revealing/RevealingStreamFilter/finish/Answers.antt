@@ -1,4 +1,4 @@
-use Rattle.caret_notation.proofs.Through.{through_end}
+use Rattle.caret_notation.proofs.Filters.FilterOfRevealed.{through_end}
 use Rattle.caret_notation.proofs.revealing.RevealingStreamFilter.finish.Goals as goal
 
 pub returns-in_err-finish-clause-longer : goal.returns-in_err-finish-clause-longer

@@ -2,7 +2,7 @@ use Rattle.std.proofs.Common.{◌∷◌, [], true, take, drop, take-append-drop,
 use Rattle.esc_segments.specs.declared.kind.SegmentKind.TheVariants as kinds
 use Rattle.esc_account.specs.Entries.{entry_as, noted_entries}
 use Rattle.esc_account.specs.declared.fate.Fate.TheVariants as fates
-use Rattle.esc_account.proofs.Leaving.{end_finishes}
+use Rattle.esc_account.proofs.AtOnce.SequencesAreLeftOut.{end_finishes}
 use Rattle.esc_account.proofs.account.Account.end_entered.Goals as goal
 
 pub returns-in-Ok-clause-finishes : goal.returns-in-Ok-clause-finishes

@@ -1,6 +1,6 @@
 use Rattle.std.proofs.Common.{◌≡◌, ◌++◌, IfOk, OnOk, subst}
 use Rattle.esc_account.specs.Entries.{noted_entries}
-use Rattle.esc_account.proofs.LineRuns.{entries_whole, run_whole}
+use Rattle.esc_account.proofs.Entries.LineIsEntered.{entries_whole, run_whole}
 use Rattle.esc_account.proofs.account.Account.entered.Goals as goal
 
 pub returns-clause-entered : goal.returns-clause-entered

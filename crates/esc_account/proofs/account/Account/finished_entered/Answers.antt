@@ -1,7 +1,7 @@
 use Rattle.std.proofs.Common.{◌≡◌, ◌++◌, ◌-◌, length, drop, length-drop, ap, sym, ◌∙◌, subst, arith}
 use Rattle.esc_frame.specs.Segments.{joined_bytes}
 use Rattle.esc_account.specs.Finished.{Finishes, IsLast}
-use Rattle.esc_account.proofs.Finishing.{dropped, finishes_both, takes_both}
+use Rattle.esc_account.proofs.Entries.FinishedAreEntered.{dropped, finishes_both, takes_both}
 use Rattle.esc_account.proofs.account.Account.finished_entered.Goals as goal
 
 pub loop-longer-preserved : goal.loop-longer-preserved

@@ -1,12 +1,12 @@
 use Rattle.std.proofs.Common.{◌≡◌, ◌++◌, ◌&&◌, IfOk, OnErr, OnOk, [], false, length, drop, ap, sym, ◌∙◌, subst, arith}
 use Rattle.esc_frame.specs.Segments.{joined_bytes}
-use Rattle.esc_parse.proofs.Lists.{if_ok_more}
+use Rattle.esc_parse.proofs.Lists.StepsOverLists.{if_ok_more}
 use Rattle.fallible_alloc.specs.Refusals.{Refused}
 use Rattle.esc_account.specs.Accounts.{Counts, Enters}
 use Rattle.esc_account.specs.Entries.{noted_entries}
 use Rattle.esc_account.specs.LineEnds.{is_return_feed, line_entries, run_line}
-use Rattle.esc_account.proofs.Finishing.{takes_none}
-use Rattle.esc_account.proofs.LineRuns.{entries_end, noted_last, one_left, run_end, run_last}
+use Rattle.esc_account.proofs.Entries.FinishedAreEntered.{takes_none}
+use Rattle.esc_account.proofs.Entries.LineIsEntered.{entries_end, noted_last, one_left, run_end, run_last}
 use Rattle.esc_account.proofs.account.Account.last_run.Goals as goal
 
 pub returns-then-is_end-clause-entered : goal.returns-then-is_end-clause-entered

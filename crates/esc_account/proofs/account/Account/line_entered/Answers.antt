@@ -1,9 +1,9 @@
 use Rattle.std.proofs.Common.{◌≡◌, ◌++◌, IfOk, subst}
-use Rattle.esc_parse.proofs.Lists.{on_ok_more}
+use Rattle.esc_parse.proofs.Lists.StepsOverLists.{on_ok_more}
 use Rattle.esc_account.specs.Accounts.{line_begun}
 use Rattle.esc_account.specs.Entries.{noted_entries}
 use Rattle.esc_account.specs.LineEnds.{ends_so, line_entries, run_line}
-use Rattle.esc_account.proofs.Entering.{gives_other, line_other, line_same, never}
+use Rattle.esc_account.proofs.Entries.LedgerIsGiven.{gives_other, line_other, line_same, never}
 use Rattle.esc_account.proofs.account.Account.line_entered.Goals as goal
 
 pub returns-then-is_same-clause-entered : goal.returns-then-is_same-clause-entered

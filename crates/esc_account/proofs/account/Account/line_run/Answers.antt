@@ -2,7 +2,7 @@ use Rattle.std.proofs.Common.{◌≡◌, ◌++◌, IfOk, OnOk, ap, sym, ◌∙�
 use Rattle.esc_account.specs.Entries.{noted_entries}
 use Rattle.esc_account.specs.Finished.{Finishes}
 use Rattle.esc_account.specs.LineEnds.{line_entries, run_line}
-use Rattle.esc_account.proofs.LineRuns.{line_all}
+use Rattle.esc_account.proofs.Entries.LineIsEntered.{line_all}
 use Rattle.esc_account.proofs.account.Account.line_run.Goals as goal
 
 pub returns-in-Ok-clause-entered : goal.returns-in-Ok-clause-entered

@@ -1,9 +1,9 @@
 use Rattle.std.proofs.Common.{◌∷◌, [], take, drop, take-append-drop, sym, arith}
 use Rattle.esc_account.specs.Leaving.{left_entry}
-use Rattle.esc_account.proofs.Finishing.{takes_none}
-use Rattle.esc_account.proofs.Leaving.{left_finishes}
-use Rattle.esc_account.proofs.PassedSequences.{passed_finishes}
-use Rattle.esc_account.proofs.Running.{passes_finishes}
+use Rattle.esc_account.proofs.AtOnce.SequencesAreLeftOut.{left_finishes}
+use Rattle.esc_account.proofs.AtOnce.SequencesPassAtOnce.{passed_finishes}
+use Rattle.esc_account.proofs.AtOnce.TextPassesAtOnce.{passes_finishes}
+use Rattle.esc_account.proofs.Entries.FinishedAreEntered.{takes_none}
 use Rattle.esc_account.proofs.account.Account.next_entered.Goals as goal
 
 pub returns-in-Ok-clause-finishes : goal.returns-in-Ok-clause-finishes

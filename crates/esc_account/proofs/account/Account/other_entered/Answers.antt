@@ -1,6 +1,6 @@
 use Rattle.std.proofs.Common.{◌++◌, [], List, drop, length}
 use Rattle.esc_account.specs.Entries.{Entry}
-use Rattle.esc_account.proofs.Finishing.{finishes_item, finishes_none, takes_none}
+use Rattle.esc_account.proofs.Entries.FinishedAreEntered.{finishes_item, finishes_none, takes_none}
 use Rattle.esc_account.proofs.account.Account.other_entered.Goals as goal
 
 pub returns-in-None-clause-finishes : goal.returns-in-None-clause-finishes

@@ -1,6 +1,6 @@
 use Rattle.std.proofs.Common.{take, drop, take-append-drop, length-take, sym, subst, arith}
 use Rattle.esc_account.specs.Passing.{Passes}
-use Rattle.esc_account.proofs.Running.{passes_some}
+use Rattle.esc_account.proofs.AtOnce.TextPassesAtOnce.{passes_some}
 use Rattle.esc_account.proofs.account.Account.text_passed.Goals as goal
 
 pub returns-clause-passes : goal.returns-clause-passes

@@ -1,4 +1,4 @@
-use Rattle.esc_account.proofs.Texts.{none_pass}
+use Rattle.esc_account.proofs.AtOnce.CharactersPass.{none_pass}
 use Rattle.esc_account.proofs.judge.Judge.passing.Goals as goal
 
 pub returns-clause-pass : goal.returns-clause-pass

@@ -1,7 +1,7 @@
 use Rattle.std.proofs.Common.{rules, ◌≡◌, false, ◌++◌, drop, subst, sym}
 use Rattle.esc_account.specs.Accounts.{begun}
 use Rattle.esc_account.specs.Finished.{Finishes}
-use Rattle.esc_account.proofs.Finishing.{finishes_both}
+use Rattle.esc_account.proofs.Entries.FinishedAreEntered.{finishes_both}
 use Rattle.esc_account.proofs.ledger.Ledger.enter_finished.Goals as goal
 
 pub returns-clause-hears : goal.returns-clause-hears

@@ -1,9 +1,9 @@
 use Rattle.std.proofs.Common.{◌++◌, false, subst, sym, arith, length-append}
 use Rattle.esc_account.specs.Accounts.{begun}
 use Rattle.esc_account.specs.Finished.{Finishes}
-use Rattle.esc_account.proofs.Entering.{never}
-use Rattle.esc_account.proofs.Finishing.{finishes_more, finishes_room}
-use Rattle.esc_account.proofs.SameBytes.{ok_given}
+use Rattle.esc_account.proofs.Entries.FinishedAreEntered.{finishes_more, finishes_room}
+use Rattle.esc_account.proofs.Entries.LedgerIsGiven.{never}
+use Rattle.esc_account.proofs.Lines.BytesAreTheSame.{ok_given}
 use Rattle.esc_account.proofs.ledger.LedgerTap.hear.Goals as goal
 
 pub returns-then-not-has_room-clause-heard : goal.returns-then-not-has_room-clause-heard

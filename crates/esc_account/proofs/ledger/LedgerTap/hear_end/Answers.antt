@@ -1,9 +1,9 @@
 use Rattle.std.proofs.Common.{[], false, length, subst, sym, ap, ◌∙◌, arith, length-append}
 use Rattle.esc_account.specs.Accounts.{begun, total}
 use Rattle.esc_account.specs.Finished.{Finishes}
-use Rattle.esc_account.proofs.Entering.{never}
-use Rattle.esc_account.proofs.Finishing.{finishes_all, finishes_room}
-use Rattle.esc_account.proofs.Totals.{total_all}
+use Rattle.esc_account.proofs.Counts.TotalIsLength.{total_all}
+use Rattle.esc_account.proofs.Entries.FinishedAreEntered.{finishes_all, finishes_room}
+use Rattle.esc_account.proofs.Entries.LedgerIsGiven.{never}
 use Rattle.esc_account.proofs.ledger.LedgerTap.hear_end.Goals as goal
 
 pub returns-then-not-has_room-clause-ended : goal.returns-then-not-has_room-clause-ended

@@ -1,7 +1,7 @@
 use Rattle.std.proofs.Common.{◌≡◌, ◌++◌, subst, sym, ap, ◌∙◌, append_assoc}
 use Rattle.esc_filter.specs.Lines.{IsLine}
 use Rattle.esc_account.specs.Ledgers.{Stands}
-use Rattle.esc_account.proofs.Standing.{line_more, stands_line}
+use Rattle.esc_account.proofs.Lines.LedgerHearsMore.{line_more, stands_line}
 use Rattle.esc_account.proofs.line_ledger.LineLedger.end_line.Goals as goal
 
 pub returns-clause-leaves : goal.returns-clause-leaves

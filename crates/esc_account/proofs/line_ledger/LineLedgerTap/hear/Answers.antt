@@ -1,8 +1,8 @@
 use Rattle.std.proofs.Common.{◌++◌, OnOk, subst, arith, length-append}
 use Rattle.esc_account.specs.Ledgers.{Keeps}
-use Rattle.esc_account.proofs.Entering.{never}
-use Rattle.esc_account.proofs.SameBytes.{ok_given}
-use Rattle.esc_account.proofs.Standing.{stands_room}
+use Rattle.esc_account.proofs.Entries.LedgerIsGiven.{never}
+use Rattle.esc_account.proofs.Lines.BytesAreTheSame.{ok_given}
+use Rattle.esc_account.proofs.Lines.LedgerHearsMore.{stands_room}
 use Rattle.esc_account.proofs.line_ledger.LineLedgerTap.hear.Goals as goal
 
 pub returns-then-not-has_room-clause-heard : goal.returns-then-not-has_room-clause-heard

@@ -1,8 +1,8 @@
 use Rattle.std.proofs.Common.{[], ◌++◌, length, subst, ap, ◌∙◌, arith, length-append}
 use Rattle.esc_filter.specs.Lines.{lines}
 use Rattle.esc_account.specs.Ledgers.{LinesRun}
-use Rattle.esc_account.proofs.Entering.{never}
-use Rattle.esc_account.proofs.Standing.{stands_end, stands_room}
+use Rattle.esc_account.proofs.Entries.LedgerIsGiven.{never}
+use Rattle.esc_account.proofs.Lines.LedgerHearsMore.{stands_end, stands_room}
 use Rattle.esc_account.proofs.line_ledger.LineLedgerTap.hear_end.Goals as goal
 
 pub returns-then-not-has_room-clause-ended : goal.returns-then-not-has_room-clause-ended

@@ -2,9 +2,9 @@ use Rattle.std.proofs.Common.{Some, refl, ◌∙◌}
 use Rattle.esc_frame.specs.Segments.{bytes_of, is_finished, joined_bytes}
 use Rattle.esc_segments.specs.Items.{kind_of}
 use Rattle.esc_actions.specs.Readings.{reading_within}
-use Rattle.esc_account.proofs.Fates.{same_verdict}
-use Rattle.esc_account.proofs.Values.{spelled_ok}
-use Rattle.esc_account.proofs.Weights.{verdict_is}
+use Rattle.esc_account.proofs.Fates.FateByFacts.{verdict_is}
+use Rattle.esc_account.proofs.Fates.FateByPolicy.{same_verdict}
+use Rattle.esc_account.proofs.Fates.ResultsOfEqualValues.{spelled_ok}
 use Rattle.esc_account.proofs.policy_judge.PolicyJudge.any_verdict.Goals as goal
 
 pub returns-in-Ok-clause-given : goal.returns-in-Ok-clause-given

@@ -2,7 +2,7 @@ use Rattle.std.proofs.Common.{Some}
 use Rattle.esc_frame.specs.Segments.{is_finished, joined_bytes}
 use Rattle.esc_actions.specs.Readings.{reading_within}
 use Rattle.esc_account.specs.Weighed.{facts_of_none}
-use Rattle.esc_account.proofs.Weights.{weighs}
+use Rattle.esc_account.proofs.Fates.FateByFacts.{weighs}
 use Rattle.esc_account.proofs.policy_judge.PolicyJudge.weighed_at_once.Goals as goal
 
 pub returns-in-Ok : goal.returns-in-Ok

@@ -1,4 +1,4 @@
-use Rattle.esc_account.proofs.LeftCommands.{end_left_out}
+use Rattle.esc_account.proofs.AtOnce.CommandsAreLeftOut.{end_left_out}
 use Rattle.esc_account.proofs.policy_judge.PolicyJudgeJudge.leaves_ends.Goals as goal
 
 pub returns : goal.returns

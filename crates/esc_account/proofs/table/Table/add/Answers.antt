@@ -1,9 +1,9 @@
 use Rattle.std.proofs.Common.{refl}
 use Rattle.esc_account.specs.Entries.{as_entry}
 use Rattle.esc_account.specs.Rows.{under}
-use Rattle.esc_account.proofs.NewRows.{begins_one}
-use Rattle.esc_account.proofs.TableRows.{added_rows}
-use Rattle.esc_account.proofs.Tables.{one_added, same_all}
+use Rattle.esc_account.proofs.Rows.NewRowBegins.{begins_one}
+use Rattle.esc_account.proofs.Rows.TableHasAll.{one_added, same_all}
+use Rattle.esc_account.proofs.Rows.WhereEntryGoes.{added_rows}
 use Rattle.esc_account.proofs.table.Table.add.Goals as goal
 
 pub returns-clause-all : goal.returns-clause-all

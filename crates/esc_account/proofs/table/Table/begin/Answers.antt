@@ -1,8 +1,8 @@
 use Rattle.std.proofs.Common.{rules, ◌≡◌, length, refl}
 use Rattle.esc_account.specs.Entries.{as_entry}
 use Rattle.esc_account.specs.Rows.{under}
-use Rattle.esc_account.proofs.Rows.{begins_row}
-use Rattle.esc_account.proofs.Tables.{begun_row, row_last}
+use Rattle.esc_account.proofs.Rows.OneEntryMore.{begins_row}
+use Rattle.esc_account.proofs.Rows.TableHasAll.{begun_row, row_last}
 use Rattle.esc_account.proofs.table.Table.begin.Goals as goal
 
 pub returns-clause-found : goal.returns-clause-found

@@ -1,4 +1,4 @@
-use Rattle.esc_account.proofs.Tables.{row_written}
+use Rattle.esc_account.proofs.Rows.TableHasAll.{row_written}
 use Rattle.esc_account.proofs.table.Table.grow.Goals as goal
 
 pub returns : goal.returns

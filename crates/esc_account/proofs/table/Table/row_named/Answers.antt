@@ -1,7 +1,7 @@
 use Rattle.esc_account.specs.Entries.{as_entry}
 use Rattle.esc_account.specs.Rows.{under}
-use Rattle.esc_account.proofs.Rows.{found_row}
-use Rattle.esc_account.proofs.TableRows.{row_fated}
+use Rattle.esc_account.proofs.Rows.OneEntryMore.{found_row}
+use Rattle.esc_account.proofs.Rows.WhereEntryGoes.{row_fated}
 use Rattle.esc_account.proofs.table.Table.row_named.Goals as goal
 
 pub returns-in-Some-clause-found : goal.returns-in-Some-clause-found

@@ -1,6 +1,6 @@
 use Rattle.esc_account.specs.Entries.{as_entry}
 use Rattle.esc_account.specs.Rows.{under}
-use Rattle.esc_account.proofs.TableRows.{ends_row, stays_ok}
+use Rattle.esc_account.proofs.Rows.WhereEntryGoes.{ends_row, stays_ok}
 use Rattle.esc_account.proofs.table.Table.row_of.Goals as goal
 
 pub returns-then-goes_on-clause-goes : goal.returns-then-goes_on-clause-goes

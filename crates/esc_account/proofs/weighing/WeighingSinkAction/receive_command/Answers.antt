@@ -1,7 +1,7 @@
 use Rattle.std.proofs.lemmas.Bool.{true≢false}
 use Rattle.esc_values.specs.Clear.{parts_of}
 use Rattle.esc_osc.specs.Reading.{meaning as command_meant}
-use Rattle.esc_account.proofs.Commands.{command_taken}
+use Rattle.esc_account.proofs.Fates.CommandsAreWeighed.{command_taken}
 use Rattle.esc_account.proofs.weighing.WeighingSinkAction.receive_command.Goals as goal
 
 pub returns-in-Some-clause-given : goal.returns-in-Some-clause-given

@@ -1,5 +1,5 @@
 use Rattle.std.proofs.Common.{rules}
-use Rattle.esc_actions.proofs.Appends.{pushed_after_others, pushed_no_print}
+use Rattle.esc_actions.proofs.Lists.ValueAtTheEnd.{pushed_after_others, pushed_no_print}
 use Rattle.esc_actions.proofs.action.Action.append_to.Goals.{in-Print+in-Ok-false, in_default}
 use Rattle.esc_actions.proofs.action.Action.append_to.Goals as goal
 

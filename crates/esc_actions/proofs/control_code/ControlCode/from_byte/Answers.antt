@@ -1,4 +1,4 @@
-use Rattle.esc_actions.proofs.Controls.{code_of_from}
+use Rattle.esc_actions.proofs.Values.CodesHaveNumbers.{code_of_from}
 use Rattle.esc_actions.proofs.control_code.ControlCode.from_byte.Goals as goal
 
 pub returns : goal.returns

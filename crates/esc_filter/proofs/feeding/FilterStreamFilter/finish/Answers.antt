@@ -1,6 +1,6 @@
 use Rattle.std.proofs.Common.{◌++◌, Some, false, sym, ap, ◌∙◌}
 use Rattle.esc_actions.specs.Texts.{list_text}
-use Rattle.esc_parse.proofs.Lists.{on_ok_more}
+use Rattle.esc_parse.proofs.Lists.StepsOverLists.{on_ok_more}
 use Rattle.esc_filter.proofs.GivingBack.GivingBackIsWritable.{closed_more}
 use Rattle.esc_filter.proofs.feeding.FilterStreamFilter.finish.Goals as goal
 use Rattle.esc_filter.specs.Closing.{closing}

@@ -1,6 +1,6 @@
 use Rattle.std.proofs.Common.{Some, subst, sym}
 use Rattle.esc_filter.proofs.Output.DeceivingCharacters.{of_nothing}
-use Rattle.esc_actions.proofs.Meanings.{meaning_nil}
+use Rattle.esc_actions.proofs.Meaning.MeaningsJoin.{meaning_nil}
 use Rattle.esc_filter.proofs.filter.Filter.begun.Goals as goal
 use Rattle.esc_filter.specs.Noted.{HasNoted}
 use Rattle.esc_filter.specs.Passing.{in_lines}

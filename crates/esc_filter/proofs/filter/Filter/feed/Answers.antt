@@ -1,6 +1,6 @@
 use Rattle.std.proofs.Common.{Some, ap, sym, subst, ◌∙◌, ◌≡◌}
 use Rattle.std.proofs.lemmas.Result.{IfErr-at_err}
-use Rattle.esc_parse.proofs.Lists.{on_ok_at}
+use Rattle.esc_parse.proofs.Lists.StepsOverLists.{on_ok_at}
 use Rattle.esc_normal.proofs.HaveTexts.{handed_out_have_texts}
 use Rattle.esc_normal.proofs.Spelling.{stops_denied}
 use Rattle.esc_filter.proofs.Output.WrittenOfPassing.{fed_all}

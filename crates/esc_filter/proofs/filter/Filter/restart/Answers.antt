@@ -1,6 +1,6 @@
 use Rattle.std.proofs.Common.{None, Some, false, sym, ap, ◌∙◌}
 use Rattle.esc_filter.proofs.Output.DeceivingCharacters.{of_nothing}
-use Rattle.esc_actions.proofs.Meanings.{meaning_nil}
+use Rattle.esc_actions.proofs.Meaning.MeaningsJoin.{meaning_nil}
 use Rattle.esc_filter.proofs.filter.Filter.restart.Goals as goal
 use Rattle.esc_filter.specs.Characters.{last_after}
 use Rattle.esc_filter.specs.Closing.{after_values}

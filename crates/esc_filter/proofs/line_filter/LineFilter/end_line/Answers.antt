@@ -3,7 +3,7 @@ use Rattle.esc_actions.specs.Texts.{list_text}
 use Rattle.esc_filter.specs.Fed.{HasConsumedIn}
 use Rattle.esc_filter.specs.Closing.{closing}
 use Rattle.esc_filter.specs.Lines.{added_by, end_text, passed_of_line, policy_of_lines}
-use Rattle.esc_parse.proofs.Lists.{on_ok_more}
+use Rattle.esc_parse.proofs.Lists.StepsOverLists.{on_ok_more}
 use Rattle.esc_filter.proofs.line_filter.LineFilter.end_line.Goals as goal
 
 pub returns-in-Ok-clause-given : goal.returns-in-Ok-clause-given

@@ -1,7 +1,7 @@
 use Rattle.std.proofs.Common.{◌++◌, ◌∷◌, [], OnOk, ap, subst, sym, true, ◌∙◌}
 use Rattle.esc_filter.specs.Fed.{HasConsumedIn}
 use Rattle.esc_filter.specs.Lines.{EndsLine, FillsLine, GrowsBy, body, content, policy_of_lines}
-use Rattle.esc_parse.proofs.Lists.{on_ok_more}
+use Rattle.esc_parse.proofs.Lists.StepsOverLists.{on_ok_more}
 use Rattle.esc_filter.proofs.ByLine.LinesAreStreams.{grows_line}
 use Rattle.esc_filter.proofs.ByLine.BytesOfLines.{content_is}
 use Rattle.esc_filter.proofs.line_filter.LineFilter.feed_line.Goals as goal

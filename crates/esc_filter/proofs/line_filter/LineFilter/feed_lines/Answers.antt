@@ -2,7 +2,7 @@ use Rattle.std.proofs.Common.{rules, ◌≡◌, ◌+◌, ◌-◌, ◌++◌, true
 use Rattle.esc_frame.proofs.ByteRuns.CsiRuns.{run_joins}
 use Rattle.std.proofs.lemmas.List.{take_rest, take_all}
 use Rattle.esc_filter.specs.Lines.{GrowsBy, HasConsumedLines, ends_line, policy_of_lines}
-use Rattle.esc_parse.proofs.Lists.{on_err_any, on_ok_more}
+use Rattle.esc_parse.proofs.Lists.StepsOverLists.{on_err_any, on_ok_more}
 use Rattle.esc_filter.proofs.ByLine.LinesAreStreams.{grows_more, grows_not}
 use Rattle.esc_filter.proofs.ByLine.BytesOfLines.{line_ended}
 use Rattle.esc_filter.proofs.line_filter.LineFilter.feed_lines.Goals as goal

@@ -1,5 +1,5 @@
 use Rattle.esc_filter.specs.Lines.{policy_of_lines}
-use Rattle.esc_parse.proofs.Lists.{on_ok_more}
+use Rattle.esc_parse.proofs.Lists.StepsOverLists.{on_ok_more}
 use Rattle.esc_filter.proofs.ByLine.LinesAreStreams.{grows_open}
 use Rattle.esc_filter.proofs.line_filter.LineFilter.feed_open.Goals as goal
 

@@ -1,7 +1,7 @@
 use Rattle.std.proofs.Common.{OnOk, subst, sym, true, rules}
 use Rattle.esc_filter.specs.Fed.{HasConsumedIn}
 use Rattle.esc_filter.specs.Lines.{GrowsLine, body, policy_of_lines}
-use Rattle.esc_parse.proofs.Lists.{on_ok_more}
+use Rattle.esc_parse.proofs.Lists.StepsOverLists.{on_ok_more}
 use Rattle.esc_filter.proofs.ByLine.LinesAreStreams.{grows_rest, released, rests}
 use Rattle.esc_filter.proofs.line_filter.LineFilter.feed_rest.Goals as goal
 

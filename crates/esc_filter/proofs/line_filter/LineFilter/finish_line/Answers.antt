@@ -1,7 +1,7 @@
 use Rattle.std.proofs.Common.{◌∙◌, OnOk, true, subst}
 use Rattle.esc_filter.specs.Fed.{HasConsumedIn}
 use Rattle.esc_filter.specs.Lines.{ClosesLine, body, policy_of_lines}
-use Rattle.esc_parse.proofs.Lists.{on_ok_more}
+use Rattle.esc_parse.proofs.Lists.StepsOverLists.{on_ok_more}
 use Rattle.esc_filter.proofs.ByLine.LinesAreStreams.{ends_all, released}
 use Rattle.esc_filter.proofs.line_filter.LineFilter.finish_line.Goals as goal
 

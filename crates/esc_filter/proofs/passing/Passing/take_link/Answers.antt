@@ -4,7 +4,7 @@ use Rattle.std.specs.declared.alloc.AllocError.{AllocError}
 use Rattle.esc_values.specs.Clear.{parts_of}
 use Rattle.esc_osc.specs.Reading.{meaning as command_meant}
 use Rattle.esc_actions.specs.declared.action.Action.TheVariants as action
-use Rattle.esc_parse.proofs.Lists.{on_err_any}
+use Rattle.esc_parse.proofs.Lists.StepsOverLists.{on_err_any}
 use Rattle.esc_filter.specs.Fed.{MayTakeCommand}
 use Rattle.esc_filter.proofs.Renditions.SequencesFromParameters.{command_passes, link_taken}
 use Rattle.esc_filter.proofs.passing.Passing.take_link.Goals as goal

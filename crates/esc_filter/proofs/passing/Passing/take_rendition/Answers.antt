@@ -2,7 +2,7 @@ use Rattle.std.proofs.Common.{Ok, false, refl, subst, true, rules}
 use Rattle.std.proofs.lemmas.Bool.{true≢false}
 use Rattle.std.specs.declared.alloc.AllocError.{AllocError}
 use Rattle.esc_sequences.specs.Csis.{csi_of}
-use Rattle.esc_parse.proofs.Lists.{on_err_any}
+use Rattle.esc_parse.proofs.Lists.StepsOverLists.{on_err_any}
 use Rattle.esc_filter.specs.Fed.{MayTakeSequence}
 use Rattle.esc_filter.proofs.Admission.PolicyIsKnown.{renditions_pass}
 use Rattle.esc_filter.proofs.GivingBack.ChangesAreNoted.{plain_denied}

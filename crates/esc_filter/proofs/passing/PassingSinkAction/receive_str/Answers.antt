@@ -2,7 +2,7 @@ use Rattle.std.proofs.Common.{chars}
 use Rattle.std.proofs.lemmas.Str.{IsUtf8-past_char}
 use Rattle.esc_actions.specs.declared.action.Action.TheVariants.{Print}
 use Rattle.esc_normal.proofs.Spelling.{match_both}
-use Rattle.esc_parse.proofs.TextRuns.{char_stopped, char_taken, chars_taken}
+use Rattle.esc_parse.proofs.Runs.RunsOfText.{char_stopped, char_taken, chars_taken}
 use Rattle.esc_filter.proofs.Output.RunsOfText.{run_passes, run_refused}
 use Rattle.esc_filter.specs.Fed.{Refuses, TakesBy}
 use Rattle.esc_filter.proofs.passing.PassingSinkAction.receive_str.Goals as goal

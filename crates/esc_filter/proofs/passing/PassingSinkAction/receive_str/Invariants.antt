@@ -1,7 +1,7 @@
 use Rattle.std.proofs.Common.{IsUtf8}
 use Rattle.std.specs.Str.Iter.{chars_rest}
 use Rattle.esc_actions.specs.declared.action.Action.TheVariants.{Print}
-use Rattle.esc_parse.proofs.TextRuns.{HasTaken}
+use Rattle.esc_parse.proofs.Runs.RunsOfText.{HasTaken}
 use Rattle.esc_filter.specs.Fed.{TakesBy}
 use Rattle.esc_filter.proofs.passing.PassingSinkAction.receive_str.Given as goal
 

@@ -1,7 +1,7 @@
 use Rattle.esc_normal.proofs.Spelling.{match_both}
 use Rattle.std.proofs.Common.{arith}
 use Rattle.esc_actions.specs.declared.action.Action.TheVariants.{Print}
-use Rattle.esc_parse.proofs.TextRuns.{stops_next, takes_next}
+use Rattle.esc_parse.proofs.Runs.RunsOfText.{stops_next, takes_next}
 use Rattle.esc_filter.proofs.Output.RunsOfText.{run_passes, run_refused}
 use Rattle.esc_filter.specs.Fed.{Refuses, TakesBy}
 use Rattle.esc_filter.proofs.passing.PassingSinkAction.receive_text.Goals as goal

@@ -5,7 +5,7 @@ use Rattle.esc_filter.specs.Closing.{after_values}
 use Rattle.esc_filter.specs.Openings.{opening}
 use Rattle.esc_filter.specs.Passing.{in_lines, passed_as}
 use Rattle.esc_filter.specs.Terminal.{as_at_start}
-use Rattle.esc_parse.proofs.Lists.{on_ok_more}
+use Rattle.esc_parse.proofs.Lists.StepsOverLists.{on_ok_more}
 use Rattle.esc_filter.proofs.resuming.ResumingFilter.close_line.Goals as goal
 
 pub returns-in-Ok-clause-given : goal.returns-in-Ok-clause-given

@@ -2,7 +2,7 @@ use Rattle.std.proofs.Common.{◌∷◌, ◌++◌, ◌∙◌, [], OnOk, ap, refl
 use Rattle.esc_filter.specs.Fed.{HasConsumedIn}
 use Rattle.esc_filter.specs.Lines.{FillsLine, body, content, policy_of_lines}
 use Rattle.esc_filter.specs.Resumed.{ClosesWith}
-use Rattle.esc_parse.proofs.Lists.{on_ok_more}
+use Rattle.esc_parse.proofs.Lists.StepsOverLists.{on_ok_more}
 use Rattle.esc_filter.proofs.ByLine.BytesOfLines.{content_is}
 use Rattle.esc_filter.proofs.Renditions.RenditionsAreResumed.{ends_with}
 use Rattle.esc_filter.proofs.resuming.ResumingFilter.end_line.Goals as goal

@@ -5,7 +5,7 @@ use Rattle.std.proofs.Common.{take-append-drop}
 use Rattle.esc_filter.specs.Lines.{HasConsumedLines, ends_line}
 use Rattle.esc_filter.specs.Resumed.{GrowsResumed, IsMarked, policy_of_resuming}
 use Rattle.fallible_alloc.specs.Refusals.{Refused}
-use Rattle.esc_parse.proofs.Lists.{on_err_any, on_ok_more}
+use Rattle.esc_parse.proofs.Lists.StepsOverLists.{on_err_any, on_ok_more}
 use Rattle.esc_filter.proofs.ByLine.BytesOfLines.{line_ended}
 use Rattle.esc_filter.proofs.Renditions.RenditionsAreResumed.{fed_grown, resumes_more, resumes_not}
 use Rattle.esc_filter.proofs.resuming.ResumingFilter.feed_lines.Goals as goal

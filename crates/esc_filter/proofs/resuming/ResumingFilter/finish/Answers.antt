@@ -1,7 +1,7 @@
 use Rattle.std.proofs.Common.{refl, sym, ◌∙◌}
 use Rattle.esc_filter.specs.Lines.{policy_of_lines}
 use Rattle.esc_filter.specs.Openings.{resumed_stream}
-use Rattle.esc_parse.proofs.Lists.{on_ok_more}
+use Rattle.esc_parse.proofs.Lists.StepsOverLists.{on_ok_more}
 use Rattle.esc_filter.proofs.Renditions.RenditionsGoOn.{at_none}
 use Rattle.esc_filter.proofs.resuming.ResumingFilter.finish.Goals as goal
 

@@ -1,7 +1,7 @@
 use Rattle.std.proofs.Common.{◌≡◌, [], ◌∙◌, rules, subst, sym}
 use Rattle.std.specs.Prelude.{string_bytes}
 use Rattle.esc_filter.specs.Lines.{GrowsBy, GrowsRest, policy_of_lines}
-use Rattle.esc_parse.proofs.Lists.{on_ok_more}
+use Rattle.esc_parse.proofs.Lists.StepsOverLists.{on_ok_more}
 use Rattle.esc_filter.proofs.ByLine.LinesAreStreams.{grows_not}
 use Rattle.esc_filter.proofs.Renditions.RenditionsAreResumed.{nil_of, opens_with}
 use Rattle.esc_filter.proofs.resuming.ResumingFilter.resume.Goals as goal

@@ -3,7 +3,7 @@ use Rattle.esc_filter.specs.Lines.{HasConsumedLines, policy_of_lines}
 use Rattle.esc_filter.specs.Openings.{opening_at}
 use Rattle.esc_filter.specs.Resumed.{EndsWith}
 use Rattle.fallible_alloc.specs.Refusals.{Refused}
-use Rattle.esc_parse.proofs.Lists.{on_ok_more}
+use Rattle.esc_parse.proofs.Lists.StepsOverLists.{on_ok_more}
 use Rattle.esc_filter.proofs.Renditions.RenditionsAreResumed.{begins_now, resumes_blank, resumes_end, resumes_line}
 use Rattle.esc_filter.proofs.resuming.ResumingFilter.take_line.Goals as goal
 

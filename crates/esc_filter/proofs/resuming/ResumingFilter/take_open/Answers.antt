@@ -2,7 +2,7 @@ use Rattle.std.proofs.Common.{◌++◌, OnErr, OnOk, true, refl, rules, subst}
 use Rattle.esc_filter.specs.Lines.{GrowsBy, HasConsumedLines, policy_of_lines}
 use Rattle.esc_filter.specs.Openings.{opening_at}
 use Rattle.fallible_alloc.specs.Refusals.{Refused}
-use Rattle.esc_parse.proofs.Lists.{on_ok_more}
+use Rattle.esc_parse.proofs.Lists.StepsOverLists.{on_ok_more}
 use Rattle.esc_filter.proofs.Renditions.RenditionsAreResumed.{begins_now, resumes_first, resumes_inside}
 use Rattle.esc_filter.proofs.resuming.ResumingFilter.take_open.Goals as goal
 

@@ -1,7 +1,7 @@
 use Rattle.std.proofs.Common.{◌≡◌, ◌∙◌, [], take, refl, rules, sym}
 use Rattle.std.specs.Prelude.{string_bytes}
 use Rattle.esc_filter.specs.Lines.{policy_of_lines}
-use Rattle.esc_parse.proofs.Lists.{if_ok_more}
+use Rattle.esc_parse.proofs.Lists.StepsOverLists.{if_ok_more}
 use Rattle.esc_filter.proofs.Renditions.RenditionsAreResumed.{nil_of, ok_each, resumes_not, resumes_quiet}
 use Rattle.esc_filter.proofs.resuming.ResumingFilter.take_plain.Goals as goal
 

@@ -3,7 +3,7 @@ use Rattle.std.proofs.lemmas.Bool.{true≢false}
 use Rattle.std.specs.declared.alloc.AllocError.{AllocError}
 use Rattle.std.proofs.lemmas.Result.{on_err_weaker}
 use Rattle.esc_values.specs.Clear.{parts_of}
-use Rattle.esc_parse.proofs.Lists.{if_ok_more}
+use Rattle.esc_parse.proofs.Lists.StepsOverLists.{if_ok_more}
 use Rattle.esc_filter.proofs.GivingBack.ChangesAreNoted.{command_denied, command_noted}
 use Rattle.esc_filter.proofs.Renditions.SequencesFromParameters.{link_denied, link_taken}
 use Rattle.esc_filter.proofs.written.WrittenSinkAction.receive_command.Goals as goal

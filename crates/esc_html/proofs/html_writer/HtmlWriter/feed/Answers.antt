@@ -1,8 +1,8 @@
 use Rattle.std.proofs.Common.{Some, ap, ◌∙◌}
 use Rattle.std.proofs.lemmas.Result.{IfErr-at_err}
-use Rattle.esc_parse.proofs.Lists.{on_ok_at}
+use Rattle.esc_parse.proofs.Lists.StepsOverLists.{on_ok_at}
 use Rattle.esc_html.specs.Fed.{state_of, text_of}
-use Rattle.esc_html.proofs.Fed.{fed_more, stops_refused}
+use Rattle.esc_html.proofs.Pages.ValuesOfPage.{fed_more, stops_refused}
 use Rattle.esc_html.proofs.html_writer.HtmlWriter.feed.Goals as goal
 
 pub returns-in-Ok-clause-given : goal.returns-in-Ok-clause-given

@@ -1,5 +1,5 @@
 use Rattle.std.proofs.Common.{◌∙◌}
-use Rattle.esc_html.proofs.Fed.{closing_same}
+use Rattle.esc_html.proofs.Pages.ValuesOfPage.{closing_same}
 use Rattle.esc_html.proofs.html_writer.HtmlWriter.finish.Goals as goal
 
 pub returns-clause-closes : goal.returns-clause-closes

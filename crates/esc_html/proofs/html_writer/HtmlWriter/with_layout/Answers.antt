@@ -1,5 +1,5 @@
 use Rattle.std.proofs.Common.{Some, sym, ap, ◌∙◌}
-use Rattle.esc_actions.proofs.Meanings.{meaning_nil}
+use Rattle.esc_actions.proofs.Meaning.MeaningsJoin.{meaning_nil}
 use Rattle.esc_html.specs.Pages.{first_state, state_from}
 use Rattle.esc_html.proofs.html_writer.HtmlWriter.with_layout.Goals as goal
 

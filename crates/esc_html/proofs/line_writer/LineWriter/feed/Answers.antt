@@ -2,7 +2,7 @@ use Rattle.std.proofs.Common.{◌≡◌, ◌-◌, ◌++◌, get_or, Some, None, 
 use Rattle.std.proofs.lemmas.Str.{IsCharBoundary-after_ascii}
 use Rattle.memchr.specs.Find.{is_byte, IsFirstByte}
 use Rattle.esc_html.specs.Lines.{lined_page}
-use Rattle.esc_html.proofs.Lining.{feed_small, last_taken, line_taken, none_stay, number_taken, on_ok_both, open_taken}
+use Rattle.esc_html.proofs.Lines.StateOfLines.{feed_small, last_taken, line_taken, none_stay, number_taken, on_ok_both, open_taken}
 use Rattle.esc_html.proofs.line_writer.LineWriter.feed.Goals as goal
 
 pub range_from-rest-requires : goal.range_from-rest-requires

@@ -1,5 +1,5 @@
 use Rattle.std.proofs.Common.{ap, sym, ◌∙◌, ◌++◌}
-use Rattle.esc_html.proofs.Runs.{bare_text, ok_same}
+use Rattle.esc_html.proofs.Pages.RunIsEachCharacter.{bare_text, ok_same}
 use Rattle.esc_html.proofs.markup.Markup.push_bare.Goals as goal
 
 pub returns-in-Some-clause-ok : goal.returns-in-Some-clause-ok

@@ -1,4 +1,4 @@
-use Rattle.esc_html.proofs.Runs.{ok_first}
+use Rattle.esc_html.proofs.Pages.RunIsEachCharacter.{ok_first}
 use Rattle.esc_html.proofs.page.Page.prepare.Goals as goal
 
 pub returns-else-ends_line-clause-layout : goal.returns-else-ends_line-clause-layout

@@ -1,6 +1,6 @@
 use Rattle.std.proofs.Common.{ap, sym}
 use Rattle.esc_html.specs.Fed.{with_text}
-use Rattle.esc_html.proofs.Runs.{bare_visible, ok_same}
+use Rattle.esc_html.proofs.Pages.RunIsEachCharacter.{bare_visible, ok_same}
 use Rattle.esc_html.proofs.page.Page.take_bare.Goals as goal
 
 pub returns-clause-ok : goal.returns-clause-ok

@@ -1,7 +1,7 @@
 use Rattle.std.proofs.lemmas.Str.{IsUtf8-past_char}
 use Rattle.esc_actions.specs.declared.action.Action.TheVariants as action
 use Rattle.esc_html.specs.Fed.{Takes}
-use Rattle.esc_parse.proofs.TextRuns.{char_stopped, char_taken, chars_taken}
+use Rattle.esc_parse.proofs.Runs.RunsOfText.{char_stopped, char_taken, chars_taken}
 use Rattle.fallible_alloc.specs.Refusals.{Refused}
 use Rattle.esc_html.proofs.page.Page.take_each.Goals as goal
 

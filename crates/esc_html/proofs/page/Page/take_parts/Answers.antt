@@ -2,7 +2,7 @@ use Rattle.std.proofs.Common.{◌≡◌, ◌-◌, get_or, Some, None, take, sym,
 use Rattle.std.proofs.lemmas.Str.{IsCharBoundary-after_ascii}
 use Rattle.memchr.specs.Find.{is_byte, IsFirstByte}
 use Rattle.esc_html.specs.Fed.{with_text}
-use Rattle.esc_html.proofs.Runs.{del_small, ok_same, text_next, visible_all}
+use Rattle.esc_html.proofs.Pages.RunIsEachCharacter.{del_small, ok_same, text_next, visible_all}
 use Rattle.esc_html.proofs.page.Page.take_parts.Goals as goal
 
 pub range_from-rest-requires : goal.range_from-rest-requires

@@ -1,5 +1,5 @@
 use Rattle.std.proofs.Common.{OnOk, ap, subst, ◌∙◌}
-use Rattle.esc_html.proofs.Sequences.{same_rendition}
+use Rattle.esc_html.proofs.Sequences.SequenceIsOneAction.{same_rendition}
 use Rattle.esc_html.specs.Fed.{Adds, state_of}
 use Rattle.esc_html.specs.Marks.{restyles}
 use Rattle.esc_style.specs.Looks.{look_by}

@@ -1,4 +1,4 @@
-use Rattle.esc_html.proofs.Fed.{image_dropped}
+use Rattle.esc_html.proofs.Pages.ValuesOfPage.{image_dropped}
 use Rattle.esc_html.proofs.page.PageSinkAction.drops_images.Goals as goal
 
 pub returns : goal.returns

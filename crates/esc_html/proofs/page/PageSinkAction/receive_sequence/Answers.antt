@@ -1,7 +1,7 @@
 use Rattle.std.proofs.Common.{rules}
 use Rattle.std.proofs.lemmas.Bool.{true≢false}
-use Rattle.esc_html.proofs.Commons.{asked_refused, asked_taken}
-use Rattle.esc_html.proofs.Sequences.{on_err, rendition_refused, rendition_taken, sequence_refused, sequence_taken}
+use Rattle.esc_html.proofs.Sequences.OneNumberIsOneValue.{asked_refused, asked_taken}
+use Rattle.esc_html.proofs.Sequences.SequenceIsOneAction.{on_err, rendition_refused, rendition_taken, sequence_refused, sequence_taken}
 use Rattle.esc_html.proofs.page.PageSinkAction.receive_sequence.Goals as goal
 
 pub returns-in-Some-clause-given : goal.returns-in-Some-clause-given

@@ -1,6 +1,6 @@
 use Rattle.std.proofs.Common.{chars, sym, ◌∙◌}
-use Rattle.esc_parse.proofs.TextRuns.{refuses_run, some_chars}
-use Rattle.esc_html.proofs.Runs.{chars_taken, received}
+use Rattle.esc_parse.proofs.Runs.RunsOfText.{refuses_run, some_chars}
+use Rattle.esc_html.proofs.Pages.RunIsEachCharacter.{chars_taken, received}
 use Rattle.esc_html.proofs.page.PageSinkAction.receive_str.Goals as goal
 
 pub returns-then-are_characters-clause-given : goal.returns-then-are_characters-clause-given

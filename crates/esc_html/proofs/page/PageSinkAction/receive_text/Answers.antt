@@ -1,8 +1,8 @@
 use Rattle.std.proofs.Common.{ap, ◌∙◌}
 use Rattle.std.specs.List.{filter}
-use Rattle.esc_parse.proofs.TextRuns.{refuses_run}
+use Rattle.esc_parse.proofs.Runs.RunsOfText.{refuses_run}
 use Rattle.esc_html.specs.Fed.{is_visible, with_text}
-use Rattle.esc_html.proofs.Runs.{bytes_taken, received}
+use Rattle.esc_html.proofs.Pages.RunIsEachCharacter.{bytes_taken, received}
 use Rattle.esc_html.proofs.page.PageSinkAction.receive_text.Goals as goal
 
 pub returns-clause-given : goal.returns-clause-given

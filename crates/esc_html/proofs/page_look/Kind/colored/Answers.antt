@@ -1,4 +1,4 @@
-use Rattle.esc_html.proofs.LookKinds.{colored_colored, kind_plain, other_colored, plain_colored}
+use Rattle.esc_html.proofs.Looks.KindsOfLooks.{colored_colored, kind_plain, other_colored, plain_colored}
 use Rattle.std.proofs.Common.{◌≡◌, true, subst}
 use Rattle.esc_html.specs.Plain.{is_of_kind}
 use Rattle.esc_html.proofs.page_look.Kind.colored.Goals as goal

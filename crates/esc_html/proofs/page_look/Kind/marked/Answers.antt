@@ -1,4 +1,4 @@
-use Rattle.esc_html.proofs.LookKinds.{kind_plain, other_marked, plain_marked}
+use Rattle.esc_html.proofs.Looks.KindsOfLooks.{kind_plain, other_marked, plain_marked}
 use Rattle.esc_html.proofs.page_look.Kind.marked.Goals as goal
 
 pub returns-in-Plain : goal.returns-in-Plain

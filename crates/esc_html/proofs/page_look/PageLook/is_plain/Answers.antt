@@ -1,5 +1,5 @@
 use Rattle.std.proofs.Common.{sym}
-use Rattle.esc_html.proofs.LookKinds.{kind_colored, kind_marked_seen, kind_other, kind_plain}
+use Rattle.esc_html.proofs.Looks.KindsOfLooks.{kind_colored, kind_marked_seen, kind_other, kind_plain}
 use Rattle.esc_html.proofs.page_look.PageLook.is_plain.Goals as goal
 
 pub returns-in-Plain : goal.returns-in-Plain

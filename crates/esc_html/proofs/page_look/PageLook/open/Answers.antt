@@ -1,4 +1,4 @@
-use Rattle.esc_html.proofs.LookKinds.{kind_alone, kind_marked}
+use Rattle.esc_html.proofs.Looks.KindsOfLooks.{kind_alone, kind_marked}
 use Rattle.esc_html.proofs.page_look.PageLook.open.Goals as goal
 
 pub open_colored-requires : goal.open_colored-requires

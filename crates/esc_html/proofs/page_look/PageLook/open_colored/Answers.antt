@@ -1,4 +1,4 @@
-use Rattle.esc_html.proofs.ColoredLooks.{is_colored}
+use Rattle.esc_html.proofs.Looks.ColoredIsItsColor.{is_colored}
 use Rattle.esc_html.proofs.page_look.PageLook.open_colored.Goals as goal
 
 pub push_colored-requires : goal.push_colored-requires

@@ -1,6 +1,6 @@
 use Rattle.std.proofs.Common.{ap, ◌∙◌}
 use Rattle.std.proofs.lemmas.Result.{IfErr-at_err, err_from_is_err_and}
-use Rattle.esc_parse.proofs.Lists.{if_err_is, on_ok_at}
+use Rattle.esc_parse.proofs.Lists.StepsOverLists.{if_err_is, on_ok_at}
 use Rattle.esc_normal.proofs.HaveTexts.{handed_out_have_texts}
 use Rattle.esc_normal.proofs.Normalising.{fed_more}
 use Rattle.esc_normal.proofs.Spelling.{stops_denied}

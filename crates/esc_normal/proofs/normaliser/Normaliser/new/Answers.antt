@@ -1,5 +1,5 @@
 use Rattle.std.proofs.Common.{false, sym, ap, ◌∙◌}
-use Rattle.esc_actions.proofs.Meanings.{meaning_nil}
+use Rattle.esc_actions.proofs.Meaning.MeaningsJoin.{meaning_nil}
 use Rattle.esc_normal.specs.Texts.{ends_in_string}
 use Rattle.esc_normal.proofs.normaliser.Normaliser.new.Goals as goal
 

@@ -1,7 +1,7 @@
 use Rattle.std.proofs.Common.{◌++◌, ap, false, ◌∙◌}
 use Rattle.std.proofs.lemmas.Result.{err_from_is_err_and}
-use Rattle.esc_parse.proofs.Lists.{match_err}
-use Rattle.esc_parse.proofs.TextRuns.{refuses_run}
+use Rattle.esc_parse.proofs.Lists.StepsOverLists.{match_err}
+use Rattle.esc_parse.proofs.Runs.RunsOfText.{refuses_run}
 use Rattle.esc_normal.proofs.OwnTexts.{spells_run}
 use Rattle.esc_normal.proofs.spell.TextSinkSinkAction.receive_text.Goals as goal
 

@@ -1,7 +1,7 @@
 use Rattle.std.proofs.Common.{arith, ◌++◌, take}
 use Rattle.std.proofs.lemmas.Grind.{common_steps}
 use Rattle.std.proofs.KnownBytes.{Appends-trans}
-use Rattle.esc_parse.proofs.Prefixes.{prefix_more}
+use Rattle.esc_parse.proofs.Lists.PrefixOfRest.{prefix_more}
 use Rattle.esc_normal.proofs.watched.Watched.write_whole.Goals as goal
 
 pub loop-rest-preserved : goal.loop-rest-preserved

@@ -1,8 +1,8 @@
 use Rattle.std.proofs.Common.{◌++◌, map, ap, ◌∙◌}
 use Rattle.std.proofs.lemmas.Result.{IfErr-at_err, IfOk-at_ok}
-use Rattle.esc_parse.proofs.Lists.{stops_wanting}
-use Rattle.esc_parse.proofs.Errors.{ok_is_no_error, same_error}
-use Rattle.esc_parse.proofs.Yields.{collects}
+use Rattle.esc_parse.proofs.Lists.StepsOverLists.{stops_wanting}
+use Rattle.esc_parse.proofs.Lists.ResultIsError.{ok_is_no_error, same_error}
+use Rattle.esc_parse.proofs.Values.EventsGiveValues.{collects}
 use Rattle.esc_parse.proofs.parser.Parser.collect.Goals as goal
 use Rattle.esc_actions.specs.Meaning.{yield_within}
 use Rattle.esc_actions.specs.Values.{value_of}

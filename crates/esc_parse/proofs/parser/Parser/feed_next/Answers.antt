@@ -1,8 +1,8 @@
 use Rattle.std.proofs.Common.{sym, subst, take, rules}
 use Rattle.std.proofs.lemmas.Result.{IfErr-at_err, IfOk-at_ok}
-use Rattle.esc_parse.proofs.FirstsGiven.{quiet_silent}
-use Rattle.esc_parse.proofs.Lists.{on_err_at}
-use Rattle.esc_parse.proofs.Yields.{may_feed, performs_fed, performs_some}
+use Rattle.esc_parse.proofs.Lists.StepsOverLists.{on_err_at}
+use Rattle.esc_parse.proofs.Values.EventsGiveValues.{may_feed, performs_fed, performs_some}
+use Rattle.esc_parse.proofs.Values.ExactPrefixes.{quiet_silent}
 use Rattle.std.proofs.Math.Logic.{⊎_map}
 use Rattle.std.proofs.Common.{inl, inr}
 use Rattle.esc_parse.proofs.parser.Parser.feed_next.Goals as goal

@@ -6,8 +6,8 @@ use Rattle.esc_frame.specs.Memory.{MayTake}
 use Rattle.esc_frame.specs.Scans.{is_data_byte}
 use Rattle.esc_actions.specs.Values.{value_of}
 use Rattle.esc_actions.specs.Meaning.{yield_within}
-use Rattle.esc_parse.proofs.DataSkips.{data_is_silent, prefix_all, takes_whole}
-use Rattle.esc_parse.proofs.Lists.{StopsAt-here, on_ok_at}
+use Rattle.esc_parse.proofs.Data.DataWithoutMode.{data_is_silent, prefix_all, takes_whole}
+use Rattle.esc_parse.proofs.Lists.StepsOverLists.{StopsAt-here, on_ok_at}
 use Rattle.esc_parse.specs.Fed.{ParserHasConsumedWithin}
 use Rattle.esc_parse.specs.Given.{AnyAt, At, StopsAt}
 use Rattle.fallible_alloc.specs.Refusals.{Refused}

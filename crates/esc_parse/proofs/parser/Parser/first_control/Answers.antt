@@ -1,7 +1,7 @@
 use Rattle.std.proofs.Common.{take, refl}
 use Rattle.esc_frame.specs.Events.Event.{Execute}
-use Rattle.esc_parse.proofs.Yields.{hooks_by}
-use Rattle.esc_parse.proofs.FirstsGiven.{control_found}
+use Rattle.esc_parse.proofs.Values.EventsGiveValues.{hooks_by}
+use Rattle.esc_parse.proofs.Values.ExactPrefixes.{control_found}
 use Rattle.esc_parse.specs.Fed.{ParserHasConsumedWithin}
 use Rattle.esc_parse.proofs.parser.Parser.first_control.Goals as goal
 

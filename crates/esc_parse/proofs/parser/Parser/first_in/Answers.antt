@@ -1,6 +1,6 @@
 use Rattle.std.proofs.Common.{ap, refl}
-use Rattle.esc_parse.proofs.FirstsGiven.{keeps_first, stops_itself}
-use Rattle.esc_parse.proofs.Lists.{if_err_third, if_ok_second}
+use Rattle.esc_parse.proofs.Lists.StepsOverLists.{if_err_third, if_ok_second}
+use Rattle.esc_parse.proofs.Values.ExactPrefixes.{keeps_first, stops_itself}
 use Rattle.esc_parse.proofs.parser.Parser.first_in.Goals as goal
 
 pub returns : goal.returns

@@ -2,8 +2,8 @@ use Rattle.std.proofs.Common.{◌≡◌, ◌+◌, ◌≤◌, ◌++◌, length, t
 use Rattle.std.proofs.lemmas.List.{append-nil, take_all}
 use Rattle.std.proofs.lemmas.Result.{IfErr-at_err, IfOk-at_ok}
 use Rattle.std.specs.Option.{option_map}
-use Rattle.esc_parse.proofs.Errors.{ok_is_no_error, same_error}
-use Rattle.esc_parse.proofs.FirstsGiven.{fed_more, finds_first, finds_none, first_handed, prefix_some, rest_length, takes_rest, yield_nil}
+use Rattle.esc_parse.proofs.Lists.ResultIsError.{ok_is_no_error, same_error}
+use Rattle.esc_parse.proofs.Values.ExactPrefixes.{fed_more, finds_first, finds_none, first_handed, prefix_some, rest_length, takes_rest, yield_nil}
 use Rattle.esc_parse.proofs.parser.Parser.first_of.Goals as goal
 use Rattle.esc_parse.specs.Calls.{After, YieldsFirst}
 use Rattle.esc_parse.specs.Fed.{ParserHasConsumedWithin}

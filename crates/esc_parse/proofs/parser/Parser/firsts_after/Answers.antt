@@ -2,9 +2,9 @@ use Rattle.std.proofs.Common.{ℕ, List, ◌≡◌, ◌+◌, ◌-◌, ◌<◌, �
 use Rattle.std.proofs.lemmas.Bool.{true≢false}
 use Rattle.std.proofs.lemmas.List.{append-nil, take_all}
 use Rattle.std.proofs.lemmas.Result.{IfErr-at_err, IfOk-at_ok}
-use Rattle.esc_parse.proofs.Collecting.{counts_more}
-use Rattle.esc_parse.proofs.Errors.{ok_is_no_error, same_error}
-use Rattle.esc_parse.proofs.FirstsGiven.{adds_nothing, fed_more, fewer_left, least, more_within, no_stop_up_to, no_stop_within, no_stop_yet, none_left, prefix_some, rest_length, some_more, some_of_rest, values_more, wants_rest}
+use Rattle.esc_parse.proofs.Lists.ListTakesActions.{counts_more}
+use Rattle.esc_parse.proofs.Lists.ResultIsError.{ok_is_no_error, same_error}
+use Rattle.esc_parse.proofs.Values.ExactPrefixes.{adds_nothing, fed_more, fewer_left, least, more_within, no_stop_up_to, no_stop_within, no_stop_yet, none_left, prefix_some, rest_length, some_more, some_of_rest, values_more, wants_rest}
 use Rattle.esc_parse.proofs.parser.Parser.firsts_after.Goals as goal
 use Rattle.esc_parse.specs.Collected.{Adds}
 use Rattle.esc_parse.specs.Fed.{ParserHasConsumedWithin}

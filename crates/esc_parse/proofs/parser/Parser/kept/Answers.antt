@@ -1,5 +1,5 @@
 use Rattle.esc_frame.specs.Stream.{events_within}
-use Rattle.esc_parse.proofs.DataLimits.{data_fits, kept_fits, kept_sum}
+use Rattle.esc_parse.proofs.Data.CountedToLimit.{data_fits, kept_fits, kept_sum}
 use Rattle.esc_parse.proofs.parser.Parser.kept.Goals as goal
 use Rattle.esc_parse.specs.Fed.{ParserHasConsumedWithin}
 use Rattle.esc_actions.specs.Meaning.{mode_from}

@@ -1,6 +1,6 @@
 use Rattle.std.proofs.Common.{ap}
-use Rattle.esc_parse.proofs.Collecting.{gathers, gathers_some}
-use Rattle.esc_parse.proofs.Lists.{if_err_third, if_ok_second, stops_wanting}
+use Rattle.esc_parse.proofs.Lists.ListTakesActions.{gathers, gathers_some}
+use Rattle.esc_parse.proofs.Lists.StepsOverLists.{if_err_third, if_ok_second, stops_wanting}
 use Rattle.esc_parse.proofs.parser.Parser.more_in.Goals as goal
 
 pub returns : goal.returns

@@ -1,5 +1,5 @@
 use Rattle.std.proofs.Common.{rules}
-use Rattle.esc_parse.proofs.Lists.{awaits_moved, if_err_parts, moved, moved_prefix, on_ok_second}
+use Rattle.esc_parse.proofs.Lists.StepsOverLists.{awaits_moved, if_err_parts, moved, moved_prefix, on_ok_second}
 use Rattle.std.proofs.Math.Logic.{⊎_map}
 use Rattle.std.proofs.Common.{inl, inr}
 use Rattle.esc_parse.proofs.parser.Parser.parse.Goals as goal

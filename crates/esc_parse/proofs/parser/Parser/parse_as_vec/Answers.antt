@@ -1,5 +1,5 @@
 use Rattle.std.proofs.Common.{sym, subst, List}
-use Rattle.esc_parse.proofs.Lists.{if_ok_more}
+use Rattle.esc_parse.proofs.Lists.StepsOverLists.{if_ok_more}
 use Rattle.esc_parse.proofs.parser.Parser.parse_as_vec.Goals as goal
 use Rattle.esc_actions.specs.Values.{Value}
 use Rattle.esc_actions.specs.Writable.{EmittedAreWritable}

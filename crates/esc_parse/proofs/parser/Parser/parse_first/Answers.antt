@@ -2,7 +2,7 @@ use Rattle.std.proofs.Common.{arith, take, rules}
 use Rattle.esc_actions.specs.Values.{control, print}
 use Rattle.esc_parse.specs.Calls.{After, YieldsFirst}
 use Rattle.esc_parse.specs.Fed.{ParserHasConsumedWithin}
-use Rattle.esc_parse.proofs.FirstsGiven.{char_yields, finds_one, first_handed}
+use Rattle.esc_parse.proofs.Values.ExactPrefixes.{char_yields, finds_one, first_handed}
 use Rattle.esc_parse.proofs.parser.Parser.parse_first.Goals as goal
 
 pub returns-in-Some : goal.returns-in-Some

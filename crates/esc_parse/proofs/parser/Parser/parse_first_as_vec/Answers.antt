@@ -1,5 +1,5 @@
 use Rattle.std.proofs.Common.{Ok, subst, sym}
-use Rattle.esc_parse.proofs.Collecting.{list_refused, lists_found}
+use Rattle.esc_parse.proofs.Lists.ListTakesActions.{list_refused, lists_found}
 use Rattle.esc_parse.specs.Calls.{FindsFirstList}
 use Rattle.esc_parse.proofs.parser.Parser.parse_first_as_vec.Goals as goal
 

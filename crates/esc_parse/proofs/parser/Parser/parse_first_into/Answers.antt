@@ -2,9 +2,9 @@ use Rattle.std.proofs.Common.{List, ◌++◌, arith, refl, rules, subst, take}
 use Rattle.esc_actions.specs.Values.{Value}
 use Rattle.esc_frame.proofs.Cut.CutAtGround.{to_ground}
 use Rattle.esc_frame.proofs.Emits.StepsAdd.{character_fed}
-use Rattle.esc_parse.proofs.Collecting.{adds_one}
-use Rattle.esc_parse.proofs.FirstsGiven.{char_yields, stops_one}
-use Rattle.esc_parse.proofs.Lists.{if_some_at}
+use Rattle.esc_parse.proofs.Lists.ListTakesActions.{adds_one}
+use Rattle.esc_parse.proofs.Lists.StepsOverLists.{if_some_at}
+use Rattle.esc_parse.proofs.Values.ExactPrefixes.{char_yields, stops_one}
 use Rattle.esc_parse.specs.Collected.{Adds}
 use Rattle.esc_parse.specs.Fed.{ParserHasConsumedWithin}
 use Rattle.esc_parse.proofs.parser.Parser.parse_first_into.Goals as goal

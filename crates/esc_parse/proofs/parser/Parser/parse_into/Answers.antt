@@ -1,7 +1,7 @@
 use Rattle.std.proofs.Common.{rules, sym, subst}
 use Rattle.std.proofs.lemmas.Result.{IfErr-at_err}
-use Rattle.esc_parse.proofs.Lists.{on_err_at, on_ok_at}
-use Rattle.esc_parse.proofs.Yields.{may_feed, performs_fed, performs_some}
+use Rattle.esc_parse.proofs.Lists.StepsOverLists.{on_err_at, on_ok_at}
+use Rattle.esc_parse.proofs.Values.EventsGiveValues.{may_feed, performs_fed, performs_some}
 use Rattle.std.proofs.Math.Logic.{⊎_map}
 use Rattle.std.proofs.Common.{inl, inr}
 use Rattle.esc_parse.proofs.parser.Parser.parse_into.Goals as goal

@@ -1,6 +1,6 @@
 use Rattle.std.proofs.Common.{◌+◌, ◌++◌, ap, length, arith, ◌∙◌}
 use Rattle.esc_actions.specs.Meaning.{yield_within}
-use Rattle.esc_parse.proofs.Lists.{nothing_left}
+use Rattle.esc_parse.proofs.Lists.StepsOverLists.{nothing_left}
 use Rattle.esc_parse.specs.Fed.{ParserHasConsumedWithin}
 use Rattle.esc_parse.proofs.parser.Parser.stops.Goals as goal
 

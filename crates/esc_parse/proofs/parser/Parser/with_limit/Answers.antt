@@ -1,5 +1,5 @@
 use Rattle.std.proofs.Common.{Some, sym, subst}
-use Rattle.esc_actions.proofs.Meanings.{mode_nil}
+use Rattle.esc_actions.proofs.Meaning.MeaningsJoin.{mode_nil}
 use Rattle.esc_parse.proofs.parser.Parser.with_limit.Goals as goal
 use Rattle.esc_parse.specs.Fed.{Hooks, ParserHasConsumedWithin}
 

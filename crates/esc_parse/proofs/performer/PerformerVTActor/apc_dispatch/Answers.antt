@@ -1,8 +1,8 @@
 use Rattle.std.proofs.Common.{◌≡◌, refl, true}
 use Rattle.esc_actions.specs.Values.{value_of}
 use Rattle.esc_parse.specs.Given.{At}
-use Rattle.esc_parse.proofs.Images.{all_dropped, command_images}
-use Rattle.esc_parse.proofs.Lists.{StopsAt-here}
+use Rattle.esc_parse.proofs.Data.ImagesLeaveSink.{all_dropped, command_images}
+use Rattle.esc_parse.proofs.Lists.StepsOverLists.{StopsAt-here}
 use Rattle.fallible_alloc.specs.Refusals.{Refused}
 use Rattle.esc_parse.proofs.performer.PerformerVTActor.apc_dispatch.Goals as goal
 

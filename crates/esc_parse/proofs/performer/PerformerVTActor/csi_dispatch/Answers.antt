@@ -4,8 +4,8 @@ use Rattle.std.specs.declared.alloc.AllocError.{AllocError}
 use Rattle.esc_sequences.specs.Csis.{csi_of}
 use Rattle.esc_actions.specs.Values.{csi, value_of}
 use Rattle.esc_parse.specs.Given.{By}
-use Rattle.esc_parse.proofs.GivenCommands.{sequence_heard}
-use Rattle.esc_parse.proofs.Lists.{folds_seen}
+use Rattle.esc_parse.proofs.Lists.StepsOverLists.{folds_seen}
+use Rattle.esc_parse.proofs.Values.CommandsAreGiven.{sequence_heard}
 use Rattle.esc_parse.proofs.performer.PerformerVTActor.csi_dispatch.Goals as goal
 
 pub returns-then-drops_sequences-clause-receives : goal.returns-then-drops_sequences-clause-receives

@@ -1,5 +1,5 @@
 use Rattle.std.proofs.Common.{sym}
-use Rattle.esc_parse.proofs.DataRuns.{data_awaits, given_run, given_stopped, quiet_refused, quiet_run}
+use Rattle.esc_parse.proofs.Runs.RunsOfData.{data_awaits, given_run, given_stopped, quiet_refused, quiet_run}
 use Rattle.std.proofs.Math.Logic.{⊎_map}
 use Rattle.esc_parse.proofs.performer.PerformerVTActor.dcs_put_text.Goals as goal
 

@@ -1,4 +1,4 @@
-use Rattle.esc_parse.proofs.Images.{all_dropped}
+use Rattle.esc_parse.proofs.Data.ImagesLeaveSink.{all_dropped}
 use Rattle.esc_parse.proofs.performer.PerformerVTActor.dcs_unhook.Goals as goal
 
 pub returns-then-is_sixel-clause-receives : goal.returns-then-is_sixel-clause-receives

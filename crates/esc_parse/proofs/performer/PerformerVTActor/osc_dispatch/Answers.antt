@@ -1,5 +1,5 @@
 use Rattle.std.proofs.Common.{map}
-use Rattle.esc_parse.proofs.GivenCommands.{text_heard}
+use Rattle.esc_parse.proofs.Values.CommandsAreGiven.{text_heard}
 use Rattle.std.proofs.Math.Logic.{⊎_map}
 use Rattle.esc_osc.specs.Reading.{meaning as command_meant}
 use Rattle.esc_parse.proofs.performer.PerformerVTActor.osc_dispatch.Goals as goal

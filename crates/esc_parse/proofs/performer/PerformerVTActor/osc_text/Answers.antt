@@ -1,5 +1,5 @@
 use Rattle.esc_values.specs.Clear.{parts_of}
-use Rattle.esc_parse.proofs.GivenCommands.{text_taken}
+use Rattle.esc_parse.proofs.Values.CommandsAreGiven.{text_taken}
 use Rattle.esc_parse.proofs.performer.PerformerVTActor.osc_text.Goals as goal
 
 pub returns-clause-emitted : goal.returns-clause-emitted

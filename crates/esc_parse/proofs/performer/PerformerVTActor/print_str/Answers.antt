@@ -1,5 +1,5 @@
 use Rattle.std.proofs.Common.{chars}
-use Rattle.esc_parse.proofs.TextRuns.{run_awaits, run_stopped, run_taken}
+use Rattle.esc_parse.proofs.Runs.RunsOfText.{run_awaits, run_stopped, run_taken}
 use Rattle.std.proofs.Math.Logic.{⊎_map}
 use Rattle.esc_parse.proofs.performer.PerformerVTActor.print_str.Goals as goal
 

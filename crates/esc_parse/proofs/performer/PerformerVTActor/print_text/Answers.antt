@@ -1,4 +1,4 @@
-use Rattle.esc_parse.proofs.TextRuns.{run_awaits, run_stopped, run_taken}
+use Rattle.esc_parse.proofs.Runs.RunsOfText.{run_awaits, run_stopped, run_taken}
 use Rattle.std.proofs.Math.Logic.{⊎_map}
 use Rattle.esc_parse.proofs.performer.PerformerVTActor.print_text.Goals as goal
 

@@ -1,7 +1,7 @@
 use Rattle.std.proofs.Common.{arith}
 use Rattle.esc_actions.specs.declared.action.Action.TheVariants as action
 use Rattle.esc_parse.specs.Collected.{Gathers}
-use Rattle.esc_parse.proofs.TextRuns.{takes_next}
+use Rattle.esc_parse.proofs.Runs.RunsOfText.{takes_next}
 use Rattle.esc_parse.proofs.sink.Collect.push_text.Goals as goal
 
 pub loop-b-preserved : goal.loop-b-preserved

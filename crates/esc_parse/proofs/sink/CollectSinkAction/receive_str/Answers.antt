@@ -2,8 +2,8 @@ use Rattle.std.proofs.Common.{inl}
 use Rattle.std.proofs.lemmas.Str.{IsUtf8-past_char}
 use Rattle.esc_actions.specs.declared.action.Action.TheVariants as action
 use Rattle.esc_parse.specs.Collected.{Gathers}
-use Rattle.esc_parse.proofs.Collecting.{Full}
-use Rattle.esc_parse.proofs.TextRuns.{char_stopped, char_taken, chars_taken}
+use Rattle.esc_parse.proofs.Lists.ListTakesActions.{Full}
+use Rattle.esc_parse.proofs.Runs.RunsOfText.{char_stopped, char_taken, chars_taken}
 use Rattle.esc_parse.proofs.sink.CollectSinkAction.receive_str.Goals as goal
 
 pub loop-c-preserved : goal.loop-c-preserved

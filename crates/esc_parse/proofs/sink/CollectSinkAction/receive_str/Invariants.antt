@@ -2,7 +2,7 @@ use Rattle.std.proofs.Common.{IsUtf8}
 use Rattle.std.specs.Str.Iter.{chars_rest}
 use Rattle.esc_actions.specs.declared.action.Action.TheVariants as action
 use Rattle.esc_parse.specs.Collected.{Gathers}
-use Rattle.esc_parse.proofs.TextRuns.{HasTaken}
+use Rattle.esc_parse.proofs.Runs.RunsOfText.{HasTaken}
 use Rattle.esc_parse.proofs.sink.CollectSinkAction.receive_str.Given as goal
 
 abbrev pub invariant-loop-c : goal.invariant-loop-c

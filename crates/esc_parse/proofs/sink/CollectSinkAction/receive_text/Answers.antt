@@ -1,7 +1,7 @@
 use Rattle.std.proofs.lemmas.Result.{err_from_is_err_and}
 use Rattle.esc_actions.specs.declared.action.Action.TheVariants as action
-use Rattle.esc_parse.proofs.Collecting.{gathers_from, gathers_none}
-use Rattle.esc_parse.proofs.Lists.{match_err}
+use Rattle.esc_parse.proofs.Lists.ListTakesActions.{gathers_from, gathers_none}
+use Rattle.esc_parse.proofs.Lists.StepsOverLists.{match_err}
 use Rattle.esc_parse.proofs.sink.CollectSinkAction.receive_text.Goals as goal
 
 pub returns-clause-given : goal.returns-clause-given

@@ -2,7 +2,7 @@ use Rattle.std.proofs.Common.{chars, map, subst, sym, ◌∙◌}
 use Rattle.std.proofs.lemmas.Str.{chars_past_char}
 use Rattle.std.specs.List.{FoldsTo}
 use Rattle.esc_actions.specs.declared.action.Action.TheVariants as action
-use Rattle.esc_parse.proofs.Collecting.{Keeps, first_taken}
+use Rattle.esc_parse.proofs.Lists.ListTakesActions.{Keeps, first_taken}
 use Rattle.esc_parse.proofs.sink.FirstSinkAction.receive_str.Goals as goal
 
 pub returns-clause-given : goal.returns-clause-given

@@ -1,4 +1,4 @@
-use Rattle.esc_parse.proofs.Collecting.{first_byte}
+use Rattle.esc_parse.proofs.Lists.ListTakesActions.{first_byte}
 use Rattle.esc_parse.proofs.sink.FirstSinkAction.receive_text.Goals as goal
 
 pub returns-clause-given : goal.returns-clause-given

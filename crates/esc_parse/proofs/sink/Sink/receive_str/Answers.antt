@@ -1,6 +1,6 @@
 use Rattle.std.proofs.Common.{subst}
 use Rattle.std.proofs.lemmas.Str.{IsUtf8-past_char}
-use Rattle.esc_parse.proofs.TextRuns.{char_may, char_stopped, char_taken, chars_taken}
+use Rattle.esc_parse.proofs.Runs.RunsOfText.{char_may, char_stopped, char_taken, chars_taken}
 use Rattle.std.proofs.Common.{◌⊎◌, sym}
 use Rattle.esc_parse.proofs.sink.Sink.receive_str.Goals as goal
 

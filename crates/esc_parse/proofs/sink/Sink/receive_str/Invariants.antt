@@ -1,6 +1,6 @@
 use Rattle.std.proofs.Common.{IsUtf8}
 use Rattle.std.specs.Str.Iter.{chars_rest}
-use Rattle.esc_parse.proofs.TextRuns.{HasTaken}
+use Rattle.esc_parse.proofs.Runs.RunsOfText.{HasTaken}
 use Rattle.esc_parse.proofs.sink.Sink.receive_str.Given as goal
 
 abbrev pub invariant-loop-c : goal.invariant-loop-c

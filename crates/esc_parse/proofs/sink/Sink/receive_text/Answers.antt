@@ -1,5 +1,5 @@
 use Rattle.std.proofs.Common.{arith, subst}
-use Rattle.esc_parse.proofs.TextRuns.{stops_next, takes_next}
+use Rattle.esc_parse.proofs.Runs.RunsOfText.{stops_next, takes_next}
 use Rattle.esc_frame.proofs.Emits.MayAfterSome.{get_each}
 use Rattle.std.proofs.Common.{◌⊎◌, sym}
 use Rattle.esc_parse.proofs.sink.Sink.receive_text.Goals as goal

@@ -1,8 +1,8 @@
 use Rattle.std.proofs.Common.{refl, subst}
 use Rattle.std.specs.List.{FoldsTo}
 use Rattle.esc_device.specs.Leads.{Pushes as PushesShort}
-use Rattle.esc_parse.proofs.DataRuns.{idle_run, short_run, sixel_run, termcap_run}
-use Rattle.esc_parse.proofs.Lists.{on_ok_more}
+use Rattle.esc_parse.proofs.Lists.StepsOverLists.{on_ok_more}
+use Rattle.esc_parse.proofs.Runs.RunsOfData.{idle_run, short_run, sixel_run, termcap_run}
 use Rattle.esc_parse.specs.Sixels.{Pushes as PushesSixel}
 use Rattle.esc_parse.proofs.unfinished.Unfinished.push_whole.Goals as goal
 

@@ -1,7 +1,7 @@
 use Rattle.std.proofs.Common.{ap, subst, sym, ◌∙◌}
 use Rattle.esc_screen.specs.Cells.{erased_cells}
 use Rattle.esc_screen.specs.Used.{IsUnusedFrom}
-use Rattle.esc_screen.proofs.Used.{erased_is, unused_erased, written_by}
+use Rattle.esc_screen.proofs.Printing.CellsAsAtFirst.{erased_is, unused_erased, written_by}
 use Rattle.esc_screen.proofs.row.Row.erase_plain.Goals as goal
 
 pub invariant_of-self : goal.invariant_of-self

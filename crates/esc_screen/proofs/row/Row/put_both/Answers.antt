@@ -1,7 +1,7 @@
 use Rattle.std.proofs.Common.{◌+◌, ◌≤◌, subst, sym, ◌∙◌, arith}
 use Rattle.esc_screen.specs.Cells.{put_wide}
 use Rattle.esc_screen.specs.Used.{IsUnusedFrom}
-use Rattle.esc_screen.proofs.Used.{unused_more, unused_put_wide, written_by}
+use Rattle.esc_screen.proofs.Printing.CellsAsAtFirst.{unused_more, unused_put_wide, written_by}
 use Rattle.esc_screen.proofs.row.Row.put_both.Goals as goal
 
 pub invariant_of-self : goal.invariant_of-self

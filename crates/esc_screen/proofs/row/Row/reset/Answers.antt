@@ -2,7 +2,7 @@ use Rattle.std.proofs.Common.{length, ap, subst, sym, ◌∙◌}
 use Rattle.esc_screen.specs.Cells.{cleared_cells}
 use Rattle.esc_screen.specs.Lists.{in_part}
 use Rattle.esc_screen.specs.Used.{IsUnusedFrom}
-use Rattle.esc_screen.proofs.Used.{reset_is, unused_blank, written_by}
+use Rattle.esc_screen.proofs.Printing.CellsAsAtFirst.{reset_is, unused_blank, written_by}
 use Rattle.esc_screen.proofs.row.Row.reset.Goals as goal
 
 pub invariant_of-self : goal.invariant_of-self

@@ -1,6 +1,6 @@
 use Rattle.esc_screen.specs.Printing.{narrow_put, wrapped_grid}
 use Rattle.esc_screen.specs.Screens.{grid_of, size_of}
-use Rattle.esc_screen.proofs.Becoming.{and_then}
+use Rattle.esc_screen.proofs.Scrolled.ChangesInTurn.{and_then}
 use Rattle.esc_screen.proofs.screen.Screen.print.Goals as goal
 
 pub returns : goal.returns

@@ -1,8 +1,8 @@
 use Rattle.std.proofs.Common.{get_or, ◌∙◌}
 use Rattle.esc_screen.specs.Printing.{narrow_put, wrapped_grid}
 use Rattle.esc_screen.specs.Screens.{grid_of, size_of}
-use Rattle.esc_screen.proofs.Becoming.{and_then}
-use Rattle.esc_screen.proofs.Runs.{first_is}
+use Rattle.esc_screen.proofs.Printing.RunsOfCharacters.{first_is}
+use Rattle.esc_screen.proofs.Scrolled.ChangesInTurn.{and_then}
 use Rattle.esc_screen.proofs.screen.Screen.print_first.Goals as goal
 
 pub returns-else-count-gt0-clause-grid : goal.returns-else-count-gt0-clause-grid

@@ -3,7 +3,7 @@ use Rattle.std.proofs.lemmas.List.{length-drop, take_all}
 use Rattle.esc_screen.specs.Screens.{grid_of, size_of}
 use Rattle.esc_screen.specs.Steps.{grid_from}
 use Rattle.esc_screen.specs.declared.step.Step.TheVariants as step
-use Rattle.esc_screen.proofs.Runs.{run_split}
+use Rattle.esc_screen.proofs.Printing.RunsOfCharacters.{run_split}
 use Rattle.esc_screen.proofs.screen.Screen.print_run.Goals as goal
 
 pub loop-rest-preserved : goal.loop-rest-preserved

@@ -1,6 +1,6 @@
 use Rattle.std.proofs.Common.{sym, ◌∙◌}
 use Rattle.esc_screen.specs.Screens.{grid_of, size_of}
-use Rattle.esc_screen.proofs.Runs.{run_is}
+use Rattle.esc_screen.proofs.Printing.RunsOfCharacters.{run_is}
 use Rattle.esc_screen.proofs.screen.Screen.put_run.Goals as goal
 
 pub returns : goal.returns

@@ -1,7 +1,7 @@
 use Rattle.std.proofs.Common.{ap, ◌∙◌}
 use Rattle.esc_screen.specs.Printing.{grid_with_room, grid_with_character}
 use Rattle.esc_screen.specs.Screens.{grid_of, size_of}
-use Rattle.esc_screen.proofs.Becoming.{and_then}
+use Rattle.esc_screen.proofs.Scrolled.ChangesInTurn.{and_then}
 use Rattle.esc_screen.proofs.screen.Screen.put_shown.Goals as goal
 
 pub returns : goal.returns

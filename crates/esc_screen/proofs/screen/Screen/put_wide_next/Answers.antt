@@ -1,6 +1,6 @@
 use Rattle.esc_screen.specs.Printing.{grid_with_room, printed_wide, wrapped_wide}
 use Rattle.esc_screen.specs.Screens.{grid_of, size_of}
-use Rattle.esc_screen.proofs.Becoming.{and_then}
+use Rattle.esc_screen.proofs.Scrolled.ChangesInTurn.{and_then}
 use Rattle.esc_screen.proofs.screen.Screen.put_wide_next.Goals as goal
 
 pub returns : goal.returns

@@ -6,8 +6,8 @@ use Rattle.esc_sixel.specs.Steps.{Pushes}
 use Rattle.esc_sixel.specs.Taking.{with_slice}
 use Rattle.esc_sixel.specs.declared.sixel_data.SixelData.TheVariants.{DefineColorMapRGB}
 use Rattle.esc_sixel.specs.declared.introducer.Introducer.TheVariants as introducer
-use Rattle.esc_sixel.proofs.Defined.{defines, holding, is_color, made, number_pushed, open_at, opened, renamed, separator_pushed, two_pushed}
-use Rattle.esc_sixel.proofs.Pushed.{color_class, folds_more, folds_one, fresh_keeps, selected_begins, some_taken}
+use Rattle.esc_sixel.proofs.Bytes.ColorIsDefined.{defines, holding, is_color, made, number_pushed, open_at, opened, renamed, separator_pushed, two_pushed}
+use Rattle.esc_sixel.proofs.Bytes.ManyBytes.{color_class, folds_more, folds_one, fresh_keeps, selected_begins, some_taken}
 use Rattle.esc_sixel.proofs.builder.SixelBuilder.defined.Goals as goal
 
 pub returns : goal.returns

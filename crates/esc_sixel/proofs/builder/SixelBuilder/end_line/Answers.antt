@@ -1,6 +1,6 @@
 use Rattle.std.proofs.Common.{◌<◌, ap, get_or, length, refl, rules}
 use Rattle.esc_sixel.specs.Steps.{Pushes}
-use Rattle.esc_sixel.proofs.Pushed.{folds_one, line_ended}
+use Rattle.esc_sixel.proofs.Bytes.ManyBytes.{folds_one, line_ended}
 use Rattle.esc_sixel.proofs.builder.SixelBuilder.end_line.Goals as goal
 
 pub returns-in-Ok-clause-takes : goal.returns-in-Ok-clause-takes

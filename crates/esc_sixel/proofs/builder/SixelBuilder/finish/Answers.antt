@@ -1,7 +1,7 @@
 use Rattle.std.proofs.Common.{◌∙◌}
 use Rattle.esc_sixel.specs.Steps.{HasConsumed}
-use Rattle.esc_sixel.proofs.Steps.{on_ok, finished}
-use Rattle.esc_sixel.proofs.Wanted.{finish_wants}
+use Rattle.esc_sixel.proofs.Bytes.BytesThatTakeMemory.{finish_wants}
+use Rattle.esc_sixel.proofs.Bytes.OneByteMore.{on_ok, finished}
 use Rattle.esc_sixel.proofs.builder.SixelBuilder.finish.Goals as goal
 
 pub returns-clause-ok : goal.returns-clause-ok

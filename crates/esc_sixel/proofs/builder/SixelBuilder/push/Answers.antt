@@ -1,6 +1,6 @@
 use Rattle.esc_sixel.specs.Classes.{class_of}
 use Rattle.esc_sixel.specs.Steps.{HasConsumed, closed_of, open_of, Closed}
-use Rattle.esc_sixel.proofs.Steps.{after_none, after_some, closed_push, open_push}
+use Rattle.esc_sixel.proofs.Bytes.OneByteMore.{after_none, after_some, closed_push, open_push}
 use Rattle.esc_sixel.proofs.builder.SixelBuilder.push.Goals as goal
 
 pub returns-in-None-clause-ok : goal.returns-in-None-clause-ok

@@ -1,6 +1,6 @@
 use Rattle.std.proofs.Common.{sym, refl, ◌∙◌}
-use Rattle.esc_sixel.proofs.Digits.{digit_is, digit_small, next_is}
-use Rattle.esc_sixel.proofs.Steps.{closed_next, closed_digit}
+use Rattle.esc_sixel.proofs.Bytes.OneByteMore.{closed_next, closed_digit}
+use Rattle.esc_sixel.proofs.Runs.ClassOfDigit.{digit_is, digit_small, next_is}
 use Rattle.esc_sixel.proofs.builder.SixelBuilder.push_after.Goals as goal
 
 pub digit-requires : goal.digit-requires

@@ -2,7 +2,7 @@ use Rattle.std.proofs.Common.{subst, sym, arith, take}
 use Rattle.std.proofs.lemmas.List.{take_all}
 use Rattle.std.specs.List.{FoldsTo}
 use Rattle.esc_sixel.specs.Steps.{Pushes}
-use Rattle.esc_sixel.proofs.Pushed.{folds_more, on_err, run_leads}
+use Rattle.esc_sixel.proofs.Bytes.ManyBytes.{folds_more, on_err, run_leads}
 use Rattle.esc_sixel.proofs.builder.SixelBuilder.push_run.Goals as goal
 
 pub returns-in_err-at-clause-err : goal.returns-in_err-at-clause-err

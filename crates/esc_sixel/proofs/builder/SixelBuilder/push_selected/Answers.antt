@@ -8,8 +8,8 @@ use Rattle.esc_sixel.specs.Steps.{Pushes}
 use Rattle.esc_sixel.specs.Taking.{with_data}
 use Rattle.esc_sixel.specs.declared.introducer.Introducer.TheVariants as introducer
 use Rattle.esc_sixel.specs.declared.sixel_data.SixelData.TheVariants.{Repeat, SelectColorMapEntry}
-use Rattle.esc_sixel.proofs.Pushed.{begins, color_class, digits_pushed, folds_more, folds_one, fresh_keeps, pixels_pushed, repeat_class, repeat_ends, repeats}
-use Rattle.esc_sixel.proofs.Pushed.{selected_begins, selects, some_taken}
+use Rattle.esc_sixel.proofs.Bytes.ManyBytes.{begins, color_class, digits_pushed, folds_more, folds_one, fresh_keeps, pixels_pushed, repeat_class, repeat_ends, repeats}
+use Rattle.esc_sixel.proofs.Bytes.ManyBytes.{selected_begins, selects, some_taken}
 use Rattle.esc_sixel.proofs.builder.SixelBuilder.push_selected.Goals as goal
 
 pub returns-in-Some-count_of_pixels-clause-ok :

@@ -2,7 +2,7 @@ use Rattle.std.proofs.Common.{◌≡◌, ◌≤◌, ◌+◌, ◌-◌, ℕ, List,
 use Rattle.std.proofs.lemmas.List.{length-take}
 use Rattle.esc_sixel.specs.Steps.{Pushes}
 use Rattle.esc_sixel.specs.Taking.{TakesFirst}
-use Rattle.esc_sixel.proofs.Pushed.{digits_pushed, folds_more, pixels_pushed}
+use Rattle.esc_sixel.proofs.Bytes.ManyBytes.{digits_pushed, folds_more, pixels_pushed}
 use Rattle.esc_sixel.proofs.builder.SixelBuilder.push_some.Goals as goal
 
 pub returns-then-run-gt0-clause-ok : goal.returns-then-run-gt0-clause-ok

@@ -5,7 +5,7 @@ use Rattle.esc_sixel.specs.Runs.{more_digits}
 use Rattle.esc_sixel.specs.Steps.{Pushes}
 use Rattle.esc_sixel.specs.declared.introducer.Introducer.TheVariants as introducer
 use Rattle.esc_sixel.specs.declared.sixel_data.SixelData.TheVariants.{Repeat}
-use Rattle.esc_sixel.proofs.Pushed.{begins, digits_pushed, folds_more, folds_one, fresh_keeps, repeat_class, repeat_ends, repeats, some_taken}
+use Rattle.esc_sixel.proofs.Bytes.ManyBytes.{begins, digits_pushed, folds_more, folds_one, fresh_keeps, repeat_class, repeat_ends, repeats, some_taken}
 use Rattle.esc_sixel.proofs.builder.SixelBuilder.repeated.Goals as goal
 
 pub returns : goal.returns

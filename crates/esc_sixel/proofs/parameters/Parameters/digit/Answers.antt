@@ -3,7 +3,7 @@ use Rattle.std.proofs.Common.{min, sym, ap, arith}
 use Rattle.std.specs.Option.{unwrap_or}
 use Rattle.esc_sixel.specs.Runs.{param, separators}
 use Rattle.esc_values.specs.Params.{capped_at_i64}
-use Rattle.esc_sixel.proofs.Runs.{param_else, semicolons_digit, digit_is_none, keeps_digit}
+use Rattle.esc_sixel.proofs.Runs.OneByteMoreOfRun.{param_else, semicolons_digit, digit_is_none, keeps_digit}
 use Rattle.esc_sixel.proofs.parameters.Parameters.digit.Goals as goal
 
 pub returns-then-self-lt5 : goal.returns-then-self-lt5

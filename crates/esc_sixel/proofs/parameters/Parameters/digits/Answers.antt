@@ -1,6 +1,6 @@
 use Rattle.std.proofs.Common.{◌∙◌, ◌≡◌, ap, arith, length, rules, sym, take}
 use Rattle.std.proofs.lemmas.List.{length-take}
-use Rattle.esc_sixel.proofs.DigitRuns.{digit_more, digits_written, number_more, written}
+use Rattle.esc_sixel.proofs.Runs.RunsOfDigits.{digit_more, digits_written, number_more, written}
 use Rattle.esc_sixel.proofs.parameters.Parameters.digits.Goals as goal
 
 pub loop-end-preserved : goal.loop-end-preserved

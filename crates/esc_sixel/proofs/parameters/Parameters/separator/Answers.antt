@@ -1,5 +1,5 @@
 use Rattle.std.proofs.Common.{◌∙◌, sym, arith}
-use Rattle.esc_sixel.proofs.Runs.{param_next, semicolons_next}
+use Rattle.esc_sixel.proofs.Runs.OneByteMoreOfRun.{param_next, semicolons_next}
 use Rattle.esc_sixel.proofs.parameters.Parameters.separator.Goals as goal
 
 pub returns-then-self-lt5 : goal.returns-then-self-lt5

@@ -1,5 +1,5 @@
 use Rattle.std.proofs.Common.{arith}
-use Rattle.esc_sixel.proofs.Gathered.{zeros_ascii}
+use Rattle.esc_sixel.proofs.Writing.TextIsGathered.{zeros_ascii}
 use Rattle.esc_sixel.proofs.sixel_data.SixelDataDisplay.fmt.Goals as goal
 
 pub put-requires : goal.put-requires

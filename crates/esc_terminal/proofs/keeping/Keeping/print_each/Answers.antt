@@ -1,6 +1,6 @@
 use Rattle.std.proofs.Common.{arith, subst}
 use Rattle.esc_actions.specs.declared.action.Action.TheVariants as action
-use Rattle.esc_parse.proofs.TextRuns.{takes_next}
+use Rattle.esc_parse.proofs.Runs.RunsOfText.{takes_next}
 use Rattle.esc_terminal.specs.Kept.{KeepsAction, KeepsStep}
 use Rattle.esc_terminal.proofs.keeping.Keeping.print_each.Goals as goal
 

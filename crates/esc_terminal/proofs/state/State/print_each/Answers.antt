@@ -1,6 +1,6 @@
 use Rattle.std.proofs.Common.{arith}
 use Rattle.esc_actions.specs.declared.action.Action.TheVariants as action
-use Rattle.esc_parse.proofs.TextRuns.{takes_next}
+use Rattle.esc_parse.proofs.Runs.RunsOfText.{takes_next}
 use Rattle.esc_terminal.specs.Fed.{Takes}
 use Rattle.esc_terminal.proofs.state.State.print_each.Goals as goal
 

@@ -1,6 +1,6 @@
 use Rattle.std.proofs.lemmas.Str.{IsUtf8-past_char}
 use Rattle.esc_actions.specs.declared.action.Action.TheVariants as action
-use Rattle.esc_parse.proofs.TextRuns.{char_taken, chars_taken}
+use Rattle.esc_parse.proofs.Runs.RunsOfText.{char_taken, chars_taken}
 use Rattle.esc_terminal.specs.Fed.{Takes}
 use Rattle.esc_terminal.proofs.state.State.print_str.Goals as goal
 

@@ -1,6 +1,6 @@
 use Rattle.std.proofs.Common.{IsSomeAnd, Some, inl, sym, subst, ◌∙◌}
 use Rattle.std.proofs.lemmas.Result.{IfErr-at_err}
-use Rattle.esc_parse.proofs.Lists.{on_ok_at}
+use Rattle.esc_parse.proofs.Lists.StepsOverLists.{on_ok_at}
 use Rattle.esc_terminal.specs.Fed.{Shows}
 use Rattle.esc_terminal.proofs.Stepping.{all_kept, rows_given}
 use Rattle.esc_terminal.proofs.Streams.{shows_cleared, shows_more, stops_refused}

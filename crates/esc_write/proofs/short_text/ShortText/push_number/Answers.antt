@@ -1,5 +1,5 @@
 use Rattle.std.proofs.Common.{◌++◌, ◌∙◌, ap, sym, arith}
-use Rattle.esc_values.proofs.Digits.{decimal_one, decimal_two, decimal_three}
+use Rattle.esc_values.proofs.Numbers.AtMostThreeDigits.{decimal_one, decimal_two, decimal_three}
 use Rattle.esc_write.proofs.ShortTexts.{two_pushed, three_pushed}
 use Rattle.esc_write.proofs.short_text.ShortText.push_number.Goals as goal
 

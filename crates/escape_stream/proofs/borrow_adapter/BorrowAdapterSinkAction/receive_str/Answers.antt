@@ -1,5 +1,5 @@
 use Rattle.std.proofs.Common.{chars, refl}
-use Rattle.esc_parse.proofs.TextRuns.{some_chars}
+use Rattle.esc_parse.proofs.Runs.RunsOfText.{some_chars}
 use Rattle.escape_stream.proofs.Lent.{may_text, text_given}
 use Rattle.escape_stream.proofs.borrow_adapter.BorrowAdapterSinkAction.receive_str.Goals as goal
 

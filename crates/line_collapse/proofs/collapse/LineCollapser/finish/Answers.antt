@@ -1,5 +1,5 @@
 use Rattle.std.proofs.Common.{IsSomeAnd, sym, subst, ◌∙◌}
-use Rattle.esc_parse.proofs.Lists.{on_err_any}
+use Rattle.esc_parse.proofs.Lists.StepsOverLists.{on_err_any}
 use Rattle.line_collapse.specs.Fed.{HasWritten}
 use Rattle.line_collapse.specs.Windows.{screen_of}
 use Rattle.line_collapse.proofs.Streams.{open_added}

@@ -1,6 +1,6 @@
 use Rattle.std.proofs.Common.{inl, inr}
 use Rattle.std.proofs.lemmas.Result.{IfErr-at_err}
-use Rattle.esc_parse.proofs.Lists.{on_ok_at}
+use Rattle.esc_parse.proofs.Lists.StepsOverLists.{on_ok_at}
 use Rattle.line_collapse.specs.Windows.{screen_of}
 use Rattle.line_collapse.proofs.Streams.{written_more}
 use Rattle.line_collapse.proofs.Taken.{all_taken, counted_more}

@@ -1,6 +1,6 @@
 use Rattle.std.proofs.Common.{Some}
 use Rattle.std.proofs.lemmas.Result.{IfErr-at_err}
-use Rattle.esc_parse.proofs.Lists.{on_ok_at}
+use Rattle.esc_parse.proofs.Lists.StepsOverLists.{on_ok_at}
 use Rattle.text_tally.proofs.Printing.{stops_refused, stream_printed}
 use Rattle.text_tally.proofs.tally.Tally.print.Goals as goal
 

@@ -1,0 +1,4 @@
+-- The revealed text of a stream.
+pub mod TextStays
+pub mod TextOfFedBytes
+pub mod RevealedReadsBack

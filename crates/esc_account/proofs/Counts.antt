@@ -1,0 +1,4 @@
+-- Totals, line feeds and places.
+pub mod TotalIsLength
+pub mod FeedsAddUp
+pub mod EntriesLieAtPlaces

@@ -1,0 +1,4 @@
+-- The account of lines, one after another.
+pub mod AccountOfLines
+pub mod LedgerHearsMore
+pub mod BytesAreTheSame

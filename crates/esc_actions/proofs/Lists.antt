@@ -1,0 +1,3 @@
+-- Lists that grow by values.
+pub mod ValueAtTheEnd
+pub mod AppendedOneByOne

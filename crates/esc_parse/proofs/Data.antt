@@ -1,0 +1,4 @@
+-- The data of device control strings.
+pub mod CountedToLimit
+pub mod DataWithoutMode
+pub mod ImagesLeaveSink
