@@ -226,6 +226,6 @@ pub record IsAtStart (t : Terminal) : Type 0 where
   pub reverse : t.reverse ≡ false
   pub no_wrap : t.no_wrap ≡ false
   pub held : t.held ≡ false
-  pub sets : t.sets ≡ unchanged.sets
+  pub sets : t.sets ≡ as_at_start.sets
   pub screen : t.screen ≡ screen.Main
   pub saved : t.saved ≡ nothing_saved
