@@ -4,6 +4,10 @@ use Rattle.esc_values.specs.declared.csi_param.CsiParam.{CsiParam}
 use Rattle.esc_html.specs.Renditions.{is_number}
 use Rattle.typed_functions.specs.Renditions.{byte_of}
 
+-- no parameter was left out, and the control sequence asks for renditions
+abbrev pub is_whole_rendition : Bool → ℕ → Bool
+is_whole_rendition truncated last = not truncated && last == 0x6d
+
 -- the parameters are one number, and the control sequence asks for renditions
 abbrev pub is_lone_number : List CsiParam → Bool → ℕ → Bool
 is_lone_number es truncated last = not truncated && (last == 0x6d && is_number es)

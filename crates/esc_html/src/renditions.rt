@@ -1,7 +1,7 @@
 //! The renditions that a control sequence asks for.
 ghost use Rattle.std.specs.Prelude.{◌≡◌, IfSome, Some, false};
 ghost use Rattle.esc_html.specs.Marks.{Pen, function_step, restyles};
-ghost use Rattle.esc_html.specs.Numbers.{is_lone_number, lone_byte};
+ghost use Rattle.esc_html.specs.Numbers.{is_lone_number, is_whole_rendition, lone_byte};
 ghost use Rattle.esc_html.specs.Renditions.{AsksFor, is_number, rendition_by, rendition_of};
 ghost use Rattle.esc_sequences.specs.Csis.{unspecified};
 ghost use Rattle.esc_style.specs.Looks.{look_by};
@@ -25,8 +25,8 @@ pub(crate) enum Common {
     Marked(Mark),
 }
 
-/// The one that a control sequence of these parameters asks for, if it has one number and nothing
-/// else, and this asks for such a rendition. `None` says nothing about the sequence.
+/// The one that a control sequence of these parameters asks for, if it has no parameter or one
+/// number, and this asks for such a rendition. `None` says nothing about the sequence.
 #[inline]
 pub(crate) fn common_rendition(
     params: &[CsiParam],
@@ -36,17 +36,28 @@ pub(crate) fn common_rendition(
     ensures { IfSome result (λ k.
         AsksFor params.now parameters_truncated control (rendition_by k)) }
 {
-    if !is_lone_number(params, parameters_truncated, control) {
+    if !is_whole_rendition(parameters_truncated, control) {
         return None;
     }
     common_of(params)
 }
 
-// The one that its number asks for.
+// Whether no parameter was left out, and the final byte is that of renditions.
+#[inline]
+fn is_whole_rendition(parameters_truncated: bool, control: u8) -> bool
+    ensures { result ≡ is_whole_rendition parameters_truncated control }
+{
+    !parameters_truncated && control == b'm'
+}
+
+// The one that these parameters ask for: none of them is as 0.
 #[inline]
 fn common_of(params: &[CsiParam]) -> Option<Common>
     ensures { IfSome result (λ k. AsksFor params.now false 0x6d (rendition_by k)) }
 {
+    if params.is_empty() {
+        return Some(Common::Reset);
+    }
     match lone_byte(params) {
         Some(number) => common_at(number),
         None => None,

@@ -1,16 +1,17 @@
--- A control sequence of one number is one value, which asks for the rendition of the number.
+-- A control sequence of one number, or of nothing, is one value, which asks for one rendition.
 use Rattle.std.specs.Prelude.{ℤ, pos, negsuc}
 use Rattle.std.proofs.Common.{ℕ, ◌≡◌, ◌==◌, Bool, true, false, if◌then◌else◌, List, [], ◌∷◌, Option, Some, None, IfSome, unwrap_or, refl, ap, sym, subst, ◌∙◌}
-use Rattle.std.proofs.lemmas.Bool.{and_parts, eqb-true, true≢false}
+use Rattle.std.proofs.lemmas.Bool.{eqb-true, true≢false}
 use Rattle.std.proofs.lemmas.Option.{none-some, same_Some}
 use Rattle.std.specs.List.{FoldsTo}
 use Rattle.esc_html.proofs.Sequences.OneNumberAsks.{alone, step_is}
-use Rattle.esc_html.proofs.Sequences.SequenceIsOneAction.{AddsFor, Denies, IsSequence, rendition_refused, rendition_taken, sequence_refused, sequence_taken}
+use Rattle.esc_html.proofs.Sequences.SequenceIsOneAction.{AddsFor, Denies, IsSequence, rendition_refused, rendition_taken, same_rendition, sequence_refused, sequence_taken}
 use Rattle.esc_html.specs.Fed.{Adds, Takes, state_of}
 use Rattle.esc_html.specs.Marks.{restyles}
-use Rattle.esc_html.specs.Numbers.{is_lone_number, lone_byte}
-use Rattle.esc_html.specs.Renditions.{AsksFor, is_number, rendition_by}
+use Rattle.esc_html.specs.Numbers.{is_whole_rendition, lone_byte}
+use Rattle.esc_html.specs.Renditions.{AsksFor, rendition_by}
 use Rattle.esc_html.specs.declared.renditions.Common.{Common}
+use Rattle.esc_html.specs.declared.renditions.Common.TheVariants as common
 use Rattle.esc_html.specs.declared.page.Page.{Page}
 use Rattle.esc_parse.specs.Given.{By, StopsAt}
 use Rattle.esc_sequences.specs.Csis.{CsiValue, csi_of, put_first, sgr, sgr_at, unspecified}
@@ -87,13 +88,20 @@ asks_common (Integer m ∷ []) (Some k) n h w =
     asks_alone m (rendition_by k) (ap (λ b. and_then b (λ n. with_more n [])) h ∙ w)
 asks_common (e ∷ f ∷ es) (Some k) n h w = absurd (none-some n h)
 
-pub asks_lone : (es : List CsiParam) (t : Bool) (f : ℕ) (o : Option Common)
-    → is_lone_number es t f ≡ true → IfSome o (λ k. AsksFor es false 0x6d (rendition_by k))
+-- no parameter takes all renditions back
+asks_nothing : AsksFor [] false 0x6d (rendition_by common.Reset)
+asks_nothing = (sgr known.Reset, refl, λ p. same_rendition p known.Reset)
+
+pub asks_reset : (es : List CsiParam) → es ≡ [] → AsksFor es false 0x6d (rendition_by common.Reset)
+asks_reset es e =
+    subst (λ es. AsksFor es false 0x6d (rendition_by common.Reset)) (sym e) asks_nothing
+
+pub asks_whole : (es : List CsiParam) (t : Bool) (f : ℕ) (o : Option Common)
+    → is_whole_rendition t f ≡ true → IfSome o (λ k. AsksFor es false 0x6d (rendition_by k))
     → IfSome o (λ k. AsksFor es t f (rendition_by k))
-asks_lone es true f o h w = absurd (true≢false (sym h))
-asks_lone es false f o h w =
-    let k = and_parts (f == 0x6d) (is_number es) h in
-    subst (λ g. IfSome o (λ k. AsksFor es false g (rendition_by k))) (sym (eqb-true f 0x6d k.0)) w
+asks_whole es true f o h w = absurd (true≢false (sym h))
+asks_whole es false f o h w =
+    subst (λ g. IfSome o (λ k. AsksFor es false g (rendition_by k))) (sym (eqb-true f 0x6d h)) w
 
 taken_by : {A : Type 0} (p q : Page A) (vs : List CsiValue) (v : CsiValue) → vs ≡ v ∷ []
     → AddsFor p v q → FoldsTo (By IsSequence Takes) p vs q
