@@ -5,3 +5,4 @@ pub mod Parts
 pub mod Lengths
 pub mod Pages
 pub mod Lines
+pub mod BareRuns

@@ -3,12 +3,9 @@ ghost use Rattle.std.specs.Prelude.{◌≡◌, true};
 ghost use Rattle.std.specs.List.{list_all};
 ghost use Rattle.std.specs.Str.{chars};
 ghost use Rattle.esc_frame.specs.Scans.{is_text_byte};
-ghost use Rattle.esc_html.specs.Characters.{is_bare, is_character, is_low_byte, is_noncharacter, shown_as};
+ghost use Rattle.esc_html.specs.Characters.{is_character, is_low_byte, is_noncharacter, shown_as};
 
 use std::str;
-
-// A run of at most so many bytes is looked through byte by byte.
-pub(crate) const SHORT: usize = 16;
 
 // U+FFFD in the place of a noncharacter, and any other character as it is.
 pub(crate) fn shown_as(c: char) -> char
@@ -50,26 +47,6 @@ fn is_each_character(text: &str) -> bool
         }
     }
     true
-}
-
-// Whether each of its bytes is written as it is: none is DEL, and none is written as a reference.
-pub(crate) fn are_bare(text: &str) -> bool
-    ensures { result ≡ list_all is_bare text.now }
-{
-    are_bare_bytes(text.as_bytes())
-}
-
-fn are_bare_bytes(text: &[u8]) -> bool
-    ensures { result ≡ list_all is_bare text.now }
-{
-    text.iter().all(|byte| is_bare(*byte))
-}
-
-#[inline]
-fn is_bare(byte: u8) -> bool
-    ensures { result ≡ is_bare byte }
-{
-    byte != 0x7f && byte != b'&' && byte != b'<' && byte != b'>'
 }
 
 // ASCII as a text.

@@ -19,6 +19,7 @@
 
 mod address;
 mod address_parts;
+mod bare;
 mod breaks;
 mod character;
 mod colored;

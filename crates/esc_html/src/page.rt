@@ -16,8 +16,9 @@ ghost use Rattle.typed_functions.specs.Selections.{renditions_left};
 ghost use Rattle.fallible_alloc.specs.Refusals.{Refused};
 
 use crate::address_parts::lead_by;
+use crate::bare::are_bare;
 use crate::breaks::{begins_line, escape_begins_line};
-use crate::character::{SHORT, are_bare, are_characters, as_str, shown_as};
+use crate::character::{are_characters, as_str, shown_as};
 use crate::layout::Layout;
 use crate::markup::Markup;
 use crate::page_look::PageLook;
@@ -137,12 +138,12 @@ impl<A: Allocator> Page<A> {
         self.show_bare(run)
     }
 
-    // Shows a run that is printed, but DEL; a short one is looked through once.
+    // Shows a run that is printed, but DEL; one that is written as it is is looked through once.
     fn take_run(&mut self, run: &str) -> Result<(), AllocError>
         ensures ok { OnOk result (self.new ≡ with_text self.old (filter is_visible run.now)) }
         ensures refused { OnErr result (Refused A) }
     {
-        if run.len() <= SHORT && are_bare(run) {
+        if are_bare(run) {
             return self.take_bare(run);
         }
         self.take_parts(run)
