@@ -10,8 +10,8 @@ returns-clause-by_lines g c = λ u limit again f text closes s kept.
     c.written_reads_back.ensures.ended c.lines_written.ensures.ended
     c.lines_written.ensures.closed limit again s kept
 
-pub returns-clause-resumed_stream : goal.returns-clause-resumed_stream
-returns-clause-resumed_stream g c = λ k u limit again f text closes s kept.
+pub returns-clause-resumed : goal.returns-clause-resumed
+returns-clause-resumed g c = λ k u limit again f text closes s kept.
     let d = resumed_stream k u limit f s in
     ap (closed_by_lines_as u again f)
     (resumes_nothing u f text closes c.written_reads_back.ensures.goes_on
