@@ -214,7 +214,7 @@ impl<P: Admit<A>, A: Allocator + Copy> Reveal<P, A> {
         }
     }
 
-    // Takes these bytes, none of which is a line feed that ends a span.
+    // Takes bytes without a line feed that ends a span.
     fn take_open(&mut self, bytes: &[u8]) -> Result<(), AllocError>
         requires { has_line_end (by_lines_of self.old) bytes.now ≡ false }
         ensures given { (r : List ℕ) → AtRest r self.old → OnOk result

@@ -13,8 +13,8 @@ use memchr::memchr2;
 use simdutf8::basic::from_utf8;
 use std::alloc::Allocator;
 
-/// Returns the length of a run of characters that comes first, each of which the policy admits: of
-/// ASCII, 20 to 7F, or in UTF-8, without marks if these are shown. It is 0 if none is seen at once.
+/// Returns the length of the first run of characters that the policy admits: of ASCII, 20 to 7F, or
+/// in UTF-8, without marks if these are shown. It is 0 if none is seen at once.
 #[inline]
 pub(crate) fn admitted_run<P: Admit<A>, A: Allocator>(
     policy: &P,

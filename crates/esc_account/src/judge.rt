@@ -28,11 +28,10 @@ pub trait Judge<A: Allocator> {
             → IfOk result (λ v. v ≡ rule self.now before g (is_finished g (joined_bytes gs))) }
         ensures refused { OnErr result (Refused A) };
 
-    /// Counts the bytes that come first and are characters of text, 20 to 7F or well-formed UTF-8,
-    /// and controls of C0 but carriage return and ESC, each of which passes by itself; and returns
-    /// the character before the next text after them, if `before` comes before them. These are
-    /// entered at once, and no verdict on them is asked for. It may be fewer than there are, and is
-    /// 0 by default, so that each has a verdict.
+    /// Counts the first bytes that pass by themselves: characters of text, 20 to 7F or well-formed
+    /// UTF-8, and controls of C0 but carriage return and ESC. Returns also the character before the
+    /// next text after them, if `before` comes before them. They are entered at once, without a
+    /// verdict. The count may be too low, and is 0 by default, so that each byte has a verdict.
     fn passing(&self, before: Option<char>, _bytes: &[u8]) -> (usize, Option<char>)
         ensures few { result.0 ≤ length _bytes.now }
         ensures pass { IsPassing (rule self.now) before (take result.0 _bytes.now) result.1 }

@@ -24,9 +24,8 @@ use esc_segments::{Segment, SegmentKind};
 use std::alloc::{AllocError, Allocator};
 
 impl Account {
-    /// Enters a line too, each segment of which has the fate that the judge says. If `ends`, a
-    /// carriage return and a line feed end its text: once these alone are left of the line they
-    /// passed.
+    /// Enters a line too; the judge says the fate of each segment. If `ends`, a carriage return and
+    /// a line feed end its text: they passed once nothing else of the line is left.
     pub(crate) fn line_run<A: Allocator, J: Judge<A>, B: Book<A>>(
         self,
         judge: &J,

@@ -20,8 +20,8 @@ use std::alloc::Allocator;
 // How many bytes are looked at before the policy is asked of them.
 const MOST: usize = 256;
 
-/// Counts the characters, tabs and line feeds that come first, each of which the policy admits, and
-/// none of which deceives; and returns the character before the next text.
+/// Counts the first characters, tabs and line feeds that the policy admits and that do not deceive;
+/// and returns the character before the next text.
 pub(crate) fn text_run<P: Admit<A>, A: Allocator>(
     policy: &P,
     before: Option<char>,

@@ -25,7 +25,7 @@ pub(crate) struct Found {
     pub to: usize,
 }
 
-/// Enters the lines too that come whole first, and of which whole lines of the text were written.
+/// Enters the first whole lines too, for which whole lines of the text were written.
 /// `AllocError` says that a request for memory was refused.
 pub(crate) fn lines_entered<A: Allocator, J: Judge<A>, B: Book<A>>(
     account: Account,
