@@ -14,7 +14,7 @@ use command_line::{
 use esc_decode::Input;
 use esc_filter::FilterError;
 use esc_normal::Watched;
-use page_input::{Casting, LeftOut, Linking, Mark, Pictures, Recorded, Sections, Window};
+use page_input::{Casting, LeftOut, Linking, Mark, Pictures, Recorded, Sections, Striking, Window};
 use std::alloc::{AllocError, Global};
 use std::io;
 use std::io::{Read, Write};
@@ -242,10 +242,10 @@ impl<'a, W: Write, E: Write> Converting<'a, W, E> {
     // Writes the HTML of text without images.
     fn take_plain<R: Read + Drop>(&mut self, name: &str, input: &mut R) -> Ended {
         let options = self.options;
-        self.write(
-            name,
-            Linking::new(self.alloc, options.encoding, options.links, input),
-        )
+        let strikes = options.rows.is_some() && !options.is_cast;
+        let input = Striking::new(self.alloc, options.encoding, strikes, input);
+        let input = Linking::new(self.alloc, options.encoding, options.links, input);
+        self.write(name, input)
     }
 
     // Writes the HTML of the text that this reads, for a stream of this name.

@@ -1,3 +1,4 @@
 pub mod Addresses
 pub mod Lines
 pub mod Linked
+pub mod Strikes

@@ -33,14 +33,14 @@ impl Carried {
         let mut rest = bytes;
         while !rest.is_empty() {
             let start = self.text_length(rest).min(rest.len());
-            self.sieve.pass(&rest[..start]);
+            self.pass(&rest[..start]);
             let n = start.saturating_add(self.follow(&rest[start..]));
             rest = &rest[n.max(1).min(rest.len())..];
         }
     }
 
-    // Returns how many bytes come before the next segment.
-    fn text_length(&self, bytes: &[u8]) -> usize {
+    /// Returns how many bytes come before the next segment.
+    pub fn text_length(&self, bytes: &[u8]) -> usize {
         if !self.framer.is_ground() {
             return 0;
         }
@@ -48,6 +48,16 @@ impl Carried {
             Lead::Text(length) => length,
             Lead::Control(_, _) | Lead::More => 0,
         }
+    }
+
+    /// Passes text before the next segment.
+    pub fn pass(&mut self, text: &[u8]) {
+        self.sieve.pass(text);
+    }
+
+    /// Returns the renditions.
+    pub fn pen(&self) -> Pen {
+        self.hold.pen
     }
 
     /// Returns whether no sequence and no string is unfinished.
@@ -62,8 +72,8 @@ impl Carried {
         Ok(text)
     }
 
-    // Follows a segment to its end, as far as it is there; returns the number of these bytes.
-    fn follow(&mut self, bytes: &[u8]) -> usize {
+    /// Follows a segment to its end, as far as it is there; returns the number of these bytes.
+    pub fn follow(&mut self, bytes: &[u8]) -> usize {
         let mut n = 0usize;
         for byte in bytes {
             n = n.saturating_add(1);

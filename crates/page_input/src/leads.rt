@@ -71,6 +71,30 @@ fn character(first: u8, rest: &[u8]) -> Lead {
     }
 }
 
+/// Returns the length of bytes of a stream in this encoding without a last character that is not
+/// whole.
+pub(crate) fn whole_length(bytes: &[u8], encoding: Encoding) -> usize {
+    match encoding {
+        Encoding::Utf8 | Encoding::EightBit => {}
+        Encoding::CodePage(_) => return bytes.len(),
+    }
+    let mut rest = bytes;
+    while let Some((last, before)) = rest.split_last() {
+        let after = bytes.get(rest.len()..).unwrap_or(b"");
+        if LEAD <= *last {
+            return match character(*last, after) {
+                Lead::More => before.len(),
+                Lead::Text(_) | Lead::Control(_, _) => bytes.len(),
+            };
+        }
+        if last.is_ascii() || after.len() >= 3 {
+            return bytes.len();
+        }
+        rest = before;
+    }
+    bytes.len()
+}
+
 // Returns the place of the first byte that may begin a sequence or a string.
 fn first_candidate(bytes: &[u8], encoding: Encoding) -> Option<usize> {
     match encoding {

@@ -1,7 +1,8 @@
 // SPDX-License-Identifier: MIT
 //! Readers that stand before a page of a log: of its first or last lines ([`Window`]), with links
-//! around addresses in its text ([`Linking`]), group after group ([`Sections`]), up to each image
-//! in it ([`Pictures`]), and of the text of a recording ([`Casting`]).
+//! around addresses in its text ([`Linking`]), with renditions in the place of overstruck
+//! characters ([`Striking`]), group after group ([`Sections`]), up to each image in it
+//! ([`Pictures`]), and of the text of a recording ([`Casting`]).
 #![tactic(auto)]
 
 mod address;
@@ -11,6 +12,7 @@ mod casting;
 mod colors;
 mod commands;
 mod deflate;
+mod emphasis;
 mod files;
 mod found;
 mod leads;
@@ -22,6 +24,8 @@ mod pictures;
 mod png;
 mod sections;
 mod sixels;
+mod striker;
+mod striking;
 mod titles;
 mod window;
 
@@ -31,4 +35,5 @@ pub use marks::Mark;
 pub use picture::{Kind, MOST_PIXELS, Picture};
 pub use pictures::{LeftOut, Pictures};
 pub use sections::{MOST_DEPTH, Sections};
+pub use striking::Striking;
 pub use window::{Cut, Window};
