@@ -1,6 +1,7 @@
 -- How characters are written from here on: the renditions that hold for them.
 use Rattle.std.specs.Prelude.{true, false, List, [], ◌∷◌, Option, Some, None}
 use Rattle.esc_values.specs.declared.csi_param.CsiParam.{CsiParam}
+use Rattle.esc_sequences.specs.declared.intensity.Intensity.{Intensity as Strength}
 use Rattle.esc_sequences.specs.declared.intensity.Intensity.TheVariants as intensity
 use Rattle.esc_sequences.specs.declared.underline.Underline.TheVariants as underline
 use Rattle.typed_functions.specs.declared.blink.Blink.TheVariants as blink
@@ -14,7 +15,8 @@ use Rattle.esc_pen.specs.declared.pen.Pen.{Pen}
 -- as at first
 abbrev pub plain_pen : Pen
 plain_pen = record {
-  intensity = intensity.Normal;
+  bold = false;
+  faint = false;
   italic = false;
   underline = underline.None;
   blink = blink.None;
@@ -27,10 +29,19 @@ plain_pen = record {
   underline_color = color.Default;
 }
 
+-- bold and faint hold together, until neither holds
+abbrev pub with_intensity : Pen → Strength → Pen
+with_intensity p intensity.Normal = record p {
+  bold = false;
+  faint = false;
+}
+with_intensity p intensity.Bold = record p { bold = true }
+with_intensity p intensity.Half = record p { faint = true }
+
 -- the pen after a rendition
 abbrev pub pen_by : Pen → Rendition → Pen
 pen_by p Reset = plain_pen
-pen_by p (Intensity i) = record p { intensity = i }
+pen_by p (Intensity i) = with_intensity p i
 pen_by p (Italic b) = record p { italic = b }
 pen_by p (Underline u) = record p { underline = u }
 pen_by p (Blink b) = record p { blink = b }

@@ -1,7 +1,5 @@
 -- The control sequences that make a pen of a plain one.
-use Rattle.std.specs.Prelude.{ℕ, ◌+◌, ◌/◌, ◌%◌, Bool, nat_lt, if◌then◌else◌, List, [], ◌∷◌, ◌++◌, codes}
-use Rattle.esc_sequences.specs.declared.intensity.Intensity.{Intensity}
-use Rattle.esc_sequences.specs.declared.intensity.Intensity.TheVariants as intensity
+use Rattle.std.specs.Prelude.{ℕ, ◌+◌, ◌/◌, ◌%◌, Bool, true, false, nat_lt, if◌then◌else◌, List, [], ◌∷◌, ◌++◌, codes}
 use Rattle.esc_sequences.specs.declared.underline.Underline.{Underline}
 use Rattle.esc_sequences.specs.declared.underline.Underline.TheVariants as underline
 use Rattle.typed_functions.specs.Numbers.{ansi_color_number}
@@ -21,10 +19,12 @@ sequence x = 0x1b ∷ 0x5b ∷ (x ++ 0x6d ∷ [])
 abbrev pub flag_text : Bool → List ℕ → List ℕ
 flag_text b x = if b then sequence x else []
 
-abbrev pub intensity_text : Intensity → List ℕ
-intensity_text intensity.Normal = []
-intensity_text intensity.Bold = sequence (codes "1")
-intensity_text intensity.Half = sequence (codes "2")
+-- the sequences for bold and for faint
+abbrev pub intensity_text : Bool → Bool → List ℕ
+intensity_text false false = []
+intensity_text true false = sequence (codes "1")
+intensity_text false true = sequence (codes "2")
+intensity_text true true = sequence (codes "1") ++ sequence (codes "2")
 
 abbrev pub underline_text : Underline → List ℕ
 underline_text underline.None = []
@@ -80,5 +80,5 @@ colors_text p = ink_text 30 (codes "38") p.foreground
 
 -- a sequence for each rendition that holds, and nothing for a plain pen
 abbrev pub pen_text : Pen → List ℕ
-pen_text p = intensity_text p.intensity
+pen_text p = intensity_text p.bold p.faint
     ++ (underline_text p.underline ++ (blink_text p.blink ++ (flags_text p ++ colors_text p)))

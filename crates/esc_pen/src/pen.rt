@@ -1,6 +1,6 @@
 //! This module says how characters are written from here on.
 ghost use Rattle.std.specs.Prelude.{◌≡◌, ◌∷◌, [], IsTrue};
-ghost use Rattle.esc_pen.specs.Pens.{pen_by, pen_by_all, pen_by_optional, plain_pen};
+ghost use Rattle.esc_pen.specs.Pens.{pen_by, pen_by_all, pen_by_optional, plain_pen, with_intensity};
 ghost use Rattle.typed_functions.specs.Selections.{renditions_left, selection_of, selections};
 
 use crate::ink::Ink;
@@ -13,8 +13,10 @@ use typed_functions::{Blink, ColorSpec, Rendition, Renditions};
 /// and how high and how wide characters are are no part of it.
 #[derive(Clone, Copy, Debug, PartialEq, Eq)]
 pub struct Pen {
-    /// Says how bright they are.
-    pub intensity: Intensity,
+    /// Says whether they are bold.
+    pub bold: bool,
+    /// Says whether they are faint, which they may be beside bold.
+    pub faint: bool,
     /// Says whether they are slanted.
     pub italic: bool,
     /// Says how they are underlined.
@@ -43,7 +45,8 @@ impl Pen {
         ensures { result ≡ plain_pen }
     {
         Pen {
-            intensity: Intensity::Normal,
+            bold: false,
+            faint: false,
             italic: false,
             underline: Underline::None,
             blink: Blink::None,
@@ -64,7 +67,7 @@ impl Pen {
     {
         match rendition {
             Rendition::Reset => *self = Pen::plain(),
-            Rendition::Intensity(intensity) => self.intensity = intensity,
+            Rendition::Intensity(intensity) => self.select_intensity(intensity),
             Rendition::Italic(is_on) => self.italic = is_on,
             Rendition::Underline(underline) => self.underline = underline,
             Rendition::Blink(blink) => self.blink = blink,
@@ -82,6 +85,21 @@ impl Pen {
             | Rendition::Frame(_)
             | Rendition::Ideogram(_)
             | Rendition::VerticalAlign(_) => {}
+        }
+    }
+
+    // Takes bold, faint, or neither.
+    #[inline]
+    fn select_intensity(&mut self, intensity: Intensity)
+        ensures { self.new ≡ with_intensity self.old intensity }
+    {
+        match intensity {
+            Intensity::Normal => {
+                self.bold = false;
+                self.faint = false;
+            }
+            Intensity::Bold => self.bold = true,
+            Intensity::Half => self.faint = true,
         }
     }
 

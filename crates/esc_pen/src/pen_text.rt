@@ -6,7 +6,7 @@ ghost use Rattle.fallible_alloc.specs.Refusals.{Refused};
 
 use crate::ink::Ink;
 use crate::pen::Pen;
-use esc_sequences::{Intensity, Underline};
+use esc_sequences::Underline;
 use esc_values::RgbColor;
 use esc_values::ascii::as_str;
 use std::alloc::{AllocError, Allocator};
@@ -20,7 +20,7 @@ impl Pen {
             ≡ string_bytes text.old ++ pen_text self.now) }
         ensures refused { OnErr result (Refused A) }
     {
-        fallible_alloc::push_str(text, intensity_text(self.intensity))?;
+        fallible_alloc::push_str(text, intensity_text(self.bold, self.faint))?;
         fallible_alloc::push_str(text, underline_text(self.underline))?;
         fallible_alloc::push_str(text, blink_text(self.blink))?;
         self.push_flags(text)?;
@@ -187,13 +187,14 @@ fn named_number(base: u8, index: u8) -> u8
     }
 }
 
-fn intensity_text(intensity: Intensity) -> &'static str
-    ensures { result.now ≡ intensity_text intensity }
+fn intensity_text(bold: bool, faint: bool) -> &'static str
+    ensures { result.now ≡ intensity_text bold faint }
 {
-    match intensity {
-        Intensity::Normal => "",
-        Intensity::Bold => "\x1b[1m",
-        Intensity::Half => "\x1b[2m",
+    match (bold, faint) {
+        (false, false) => "",
+        (true, false) => "\x1b[1m",
+        (false, true) => "\x1b[2m",
+        (true, true) => "\x1b[1m\x1b[2m",
     }
 }
 

@@ -56,7 +56,7 @@ impl Emphasis {
     pub fn beside(self, pen: Pen) -> Emphasis {
         let plain = Pen::plain();
         Emphasis {
-            bold: self.bold && pen.intensity == plain.intensity,
+            bold: self.bold && !pen.bold && !pen.faint,
             underline: self.underline && pen.underline == plain.underline,
         }
     }

@@ -2,8 +2,6 @@
 use Rattle.std.proofs.Common.{ℕ, ◌≡◌, ◌+◌, ◌/◌, ◌%◌, Bool, true, false, ◌||◌, nat_lt, if◌then◌else◌, List, [], ◌∷◌, ◌++◌, Option, None, Some, codes, arith, refl, ap, sym, ◌∙◌, append_assoc, append-nil}
 use Rattle.std.proofs.lemmas.Bool.{ne_eqb}
 use Rattle.esc_actions.specs.Values.{Value}
-use Rattle.esc_sequences.specs.declared.intensity.Intensity.{Intensity}
-use Rattle.esc_sequences.specs.declared.intensity.Intensity.TheVariants as intensity
 use Rattle.esc_sequences.specs.declared.underline.Underline.{Underline}
 use Rattle.esc_sequences.specs.declared.underline.Underline.TheVariants as underline
 use Rattle.typed_functions.specs.Numbers.{ansi_color_number}
@@ -50,10 +48,11 @@ flag_feedless : (b : Bool) (x : List ℕ) → Feedless x → Feedless (flag_text
 flag_feedless true x h = sequence_feedless x h
 flag_feedless false x h = refl
 
-intensity_feedless : (i : Intensity) → Feedless (intensity_text i)
-intensity_feedless intensity.Normal = refl
-intensity_feedless intensity.Bold = refl
-intensity_feedless intensity.Half = refl
+intensity_feedless : (b f : Bool) → Feedless (intensity_text b f)
+intensity_feedless false false = refl
+intensity_feedless true false = refl
+intensity_feedless false true = refl
+intensity_feedless true true = refl
 
 underline_feedless : (u : Underline) → Feedless (underline_text u)
 underline_feedless underline.None = refl
@@ -102,9 +101,9 @@ ink_feedless base t (ink.Other c) h = color_feedless t 0x3b c h refl
 
 pen_feedless : (p : Pen) → Feedless (pen_text p)
 pen_feedless p =
-    feeds_append (intensity_text p.intensity)
+    feeds_append (intensity_text p.bold p.faint)
     (underline_text p.underline ++ (blink_text p.blink ++ (flags_text p ++ colors_text p)))
-    (intensity_feedless p.intensity)
+    (intensity_feedless p.bold p.faint)
     (feeds_append (underline_text p.underline)
     (blink_text p.blink ++ (flags_text p ++ colors_text p)) (underline_feedless p.underline)
     (feeds_append (blink_text p.blink) (flags_text p ++ colors_text p) (blink_feedless p.blink)
