@@ -2,3 +2,4 @@ pub mod Sound
 pub mod Whole
 pub mod Printing
 pub mod Scrolled
+pub mod Resizing

@@ -15,3 +15,4 @@ pub mod Sound
 pub mod Halves
 pub mod Scrolled
 pub mod Logs
+pub mod Resized

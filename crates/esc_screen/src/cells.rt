@@ -1,11 +1,14 @@
 //! The cells of a row.
-ghost use Rattle.std.specs.Prelude.{◌≡◌, ◌+◌, ◌<◌, ◌≤◌, ◌^◌, drop, length, map, true};
+ghost use Rattle.std.specs.Prelude.{◌≡◌, ◌+◌, ◌<◌, ◌≤◌, ◌^◌, IfOk, OnErr, drop, length, map, true};
 ghost use Rattle.esc_screen.specs.Cells.{cleared_cells, content_at, cut_row, deleted_cells, drawn_cell, emptied_cells, erased_cells, filled_cells, filled_part, inserted_cells, is_free, joined_at, mark_at, marked_cells, cells_with, put_all, put_wide, start_of};
 ghost use Rattle.esc_screen.specs.Lists.{in_part, moved_down, moved_up};
+ghost use Rattle.esc_screen.specs.Resized.{resized_row};
+ghost use Rattle.fallible_alloc.specs.Refusals.{Refused};
 
 use crate::cell::Cell;
 use crate::content::Content;
 use crate::marks::Marks;
+use std::alloc::{AllocError, Allocator};
 
 // Takes the character out of a cell.
 #[inline]
@@ -278,4 +281,22 @@ pub(crate) fn insert(cells: &mut [Cell], count: usize, from: usize, to: usize, l
     cut_at(cells, from);
     cut_at(cells, from.max(to.saturating_sub(count)));
     part_right(cells, from, to, count, look);
+}
+
+/// Returns so many cells: the first ones of a row, and blank ones after them.
+pub(crate) fn resized<A: Allocator>(
+    cells: &[Cell],
+    alloc: A,
+    columns: usize,
+) -> Result<Vec<Cell, A>, AllocError>
+    ensures ok { IfOk result (λ v. v.items ≡ resized_row columns cells.now) }
+    ensures refused { OnErr result (Refused A) }
+{
+    let mut all = fallible_alloc::copied(alloc, cells)?;
+    cut_at(&mut all, columns);
+    all.truncate(columns);
+    for _ in 0..columns.saturating_sub(cells.len()) {
+        fallible_alloc::push(&mut all, Cell::blank(0))?;
+    }
+    Ok(all)
 }

@@ -1,6 +1,7 @@
 //! The cursor of a screen.
 ghost use Rattle.std.specs.Prelude.{◌≡◌};
 ghost use Rattle.esc_screen.specs.Cursors.{draws, home, softly_reset};
+ghost use Rattle.esc_screen.specs.Resized.{cursor_within};
 
 /// The place, the look and the character set of the next character: DECSC saves them, and DECRC
 /// restores them (VT510, "Save Cursor").
@@ -67,6 +68,17 @@ impl Cursor {
             g0_draws: false,
             g1_draws: false,
             shifted: false,
+            ..self
+        }
+    }
+
+    /// The same, within so many rows and columns: in the last one, if it is past that.
+    pub(crate) fn within(self, rows: u16, columns: u16) -> Cursor
+        ensures { result ≡ cursor_within rows columns self }
+    {
+        Cursor {
+            row: self.row.min(rows.saturating_sub(1)),
+            column: self.column.min(columns.saturating_sub(1)),
             ..self
         }
     }

@@ -1,9 +1,10 @@
 //! A terminal's screen: rows of cells, a cursor, and the effect of each control function on them,
 //! in the terms of ECMA-48, of DEC's manual of the VT510 and of xterm's "Control Sequences".
 //!
-//! A [`Screen`] takes [`Step`]s. It asks for memory once, when it is made: no step does, so none of
-//! them has an error. A row has as many [`Cell`]s as the screen has columns. A character takes one
-//! cell or two, and how it looks is a number, which the caller chooses.
+//! A [`Screen`] takes [`Step`]s. It asks for memory when it is made, and when it gets another size:
+//! no step does, so none of them has an error. A row has as many [`Cell`]s as the screen has
+//! columns. A character takes one cell or two, and how it looks is a number, which the caller
+//! chooses.
 //!
 //! ```text
 //! let mut screen = Screen::new(alloc, 24, 80)?;

@@ -1,6 +1,7 @@
 //! A row of cells.
 ghost use Rattle.std.specs.Prelude.{◌≡◌, ◌+◌, ◌<◌, ◌^◌, IfOk, OnErr, length};
 ghost use Rattle.esc_screen.specs.Cells.{blank_row, cleared_cells, content_at, deleted_cells, erased_cells, filled_cells, filled_part, inserted_cells, joined_at, marked_cells, cells_with, put_all, put_wide, shifted_cells};
+ghost use Rattle.esc_screen.specs.Resized.{resized_row};
 ghost use Rattle.esc_screen.specs.Used.{IsUnusedFrom};
 ghost use Rattle.fallible_alloc.specs.Refusals.{Refused};
 
@@ -42,6 +43,16 @@ impl<A: Allocator> Row<A> {
             fallible_alloc::push(&mut cells, Cell::blank(0))?;
         }
         Ok(Row { cells, used: 0 })
+    }
+
+    /// Returns its cells as a row of so many columns: it is cut, or blank cells come at the end.
+    pub fn resized(&self, alloc: A, columns: usize) -> Result<Row<A>, AllocError>
+        ensures ok { IfOk result (λ r. r ≡ resized_row columns self.now) }
+        ensures refused { OnErr result (Refused A) }
+    {
+        let cells = cells::resized(&self.cells, alloc, columns)?;
+        let used = cells.len();
+        Ok(Row { cells, used })
     }
 
     /// Its cells.

@@ -1,12 +1,14 @@
 //! The rows of a screen.
-ghost use Rattle.std.specs.Prelude.{◌≡◌, ◌+◌, ◌<◌, ◌^◌, map};
+ghost use Rattle.std.specs.Prelude.{◌≡◌, ◌+◌, ◌<◌, ◌^◌, IfOk, OnErr, drop, map};
 ghost use Rattle.esc_screen.specs.Cells.{cleared_cells, filled_cells, filled_part, shifted_cells};
 ghost use Rattle.esc_screen.specs.Lists.{in_part, moved_down, moved_up};
+ghost use Rattle.esc_screen.specs.Resized.{resized_each, resized_rows};
+ghost use Rattle.fallible_alloc.specs.Refusals.{Refused};
 
 use crate::cell::Cell;
 use crate::row::Row;
 use crate::shift::Shift;
-use std::alloc::Allocator;
+use std::alloc::{AllocError, Allocator};
 
 /// Makes all cells of rows this one.
 pub(crate) fn fill<A: Allocator>(rows: &mut [Row<A>], cell: Cell)
@@ -142,4 +144,56 @@ pub(crate) fn fill_area<A: Allocator>(
     if from < end {
         fill_columns(&mut rows[from..end], left, right, cell);
     }
+}
+
+// Returns these rows with so many columns.
+fn resized_each<A: Allocator + Copy>(
+    rows: &[Row<A>],
+    alloc: A,
+    columns: usize,
+) -> Result<Vec<Row<A>, A>, AllocError>
+    ensures ok { IfOk result (λ v. v.items ≡ resized_each columns rows.now) }
+    ensures refused { OnErr result (Refused A) }
+{
+    let mut all = Vec::new(alloc);
+    for i in 0..rows.len() {
+        let row = rows[i].resized(alloc, columns)?;
+        fallible_alloc::push(&mut all, row)?;
+    }
+    Ok(all)
+}
+
+// Returns so many rows of so many columns: the first ones, and blank ones after them.
+fn resized<A: Allocator + Copy>(
+    rows: &[Row<A>],
+    alloc: A,
+    count: usize,
+    columns: usize,
+) -> Result<Vec<Row<A>, A>, AllocError>
+    ensures ok { IfOk result (λ v. v.items ≡ resized_rows count columns rows.now) }
+    ensures refused { OnErr result (Refused A) }
+{
+    let kept = count.min(rows.len());
+    let mut all = resized_each(&rows[..kept], alloc, columns)?;
+    for _ in 0..count.saturating_sub(rows.len()) {
+        let row = Row::new(alloc, columns)?;
+        fallible_alloc::push(&mut all, row)?;
+    }
+    Ok(all)
+}
+
+/// Returns the rows that are left for a screen of so many rows and columns, if so many leave at the
+/// top.
+pub(crate) fn left<A: Allocator + Copy>(
+    rows: &[Row<A>],
+    alloc: A,
+    gone: usize,
+    count: usize,
+    columns: usize,
+) -> Result<Vec<Row<A>, A>, AllocError>
+    ensures ok { IfOk result (λ v. v.items ≡ resized_rows count columns (drop gone rows.now)) }
+    ensures refused { OnErr result (Refused A) }
+{
+    let first = gone.min(rows.len());
+    resized(&rows[first..], alloc, count, columns)
 }

@@ -20,6 +20,7 @@ mod changing;
 mod leaving;
 mod moving;
 mod printing;
+mod resizing;
 mod setting;
 
 /// A terminal's screen: its rows and those of the screen that is not seen, the main one or the

@@ -1,6 +1,7 @@
 //! Tab stops: for each column whether it is one.
 ghost use Rattle.std.specs.Prelude.{◌≡◌, ◌+◌, IfOk, OnErr, drop, false, replicate};
 ghost use Rattle.esc_screen.specs.Cursors.{before_stop, eighths, stop_before};
+ghost use Rattle.esc_screen.specs.Resized.{resized_tabs};
 ghost use Rattle.fallible_alloc.specs.Refusals.{Refused};
 
 use std::alloc::{AllocError, Allocator};
@@ -51,4 +52,21 @@ pub(crate) fn eighths<A: Allocator>(alloc: A, columns: usize) -> Result<Vec<bool
     }
     set_eighths(&mut tabs);
     Ok(tabs)
+}
+
+/// Returns the stops of so many columns: every eighth column is one of those that are new.
+pub(crate) fn resized<A: Allocator>(
+    tabs: &[bool],
+    alloc: A,
+    columns: usize,
+) -> Result<Vec<bool, A>, AllocError>
+    ensures ok { IfOk result (λ v. v.items ≡ resized_tabs columns tabs.now) }
+    ensures refused { OnErr result (Refused A) }
+{
+    let mut all = fallible_alloc::copied(alloc, tabs)?;
+    all.truncate(columns);
+    for column in tabs.len()..columns {
+        fallible_alloc::push(&mut all, column % 8 == 0)?;
+    }
+    Ok(all)
 }

@@ -10,3 +10,4 @@ pub mod Rows
 pub mod Fed
 pub mod Scrolled
 pub mod Kept
+pub mod Resized

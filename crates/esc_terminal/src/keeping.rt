@@ -4,9 +4,10 @@ ghost use Rattle.std.specs.List.{FoldsTo};
 ghost use Rattle.esc_actions.specs.declared.action.Action.TheVariants as action;
 ghost use Rattle.esc_frame.specs.Scans.{IsRun, is_text_byte};
 ghost use Rattle.esc_sequences.specs.Csis.{csi_value};
-ghost use Rattle.esc_screen.specs.Scrolled.{gone_by};
+ghost use Rattle.esc_screen.specs.Scrolled.{gone_by, main_rows};
 ghost use Rattle.esc_screen.specs.Screens.{grid_of, size_of};
 ghost use Rattle.esc_terminal.specs.Kept.{HandsOut, HasColumns, KeepsAction, KeepsFunction, KeepsSequence, KeepsStep, has_room};
+ghost use Rattle.esc_terminal.specs.Resized.{KeepsSize};
 ghost use Rattle.typed_functions.specs.Functions.{value_of as function_value};
 ghost use Rattle.fallible_alloc.specs.Refusals.{Refused};
 
@@ -61,6 +62,29 @@ impl<R: Rows, A: Allocator + Copy> Keeping<R, A> {
             self.state.screen.take(part);
         }
         Ok(())
+    }
+
+    // Hands out the first so many rows of the main screen.
+    fn hand_out_first(&mut self, count: usize) -> Result<(), AllocError>
+        ensures ok { OnOk result (HandsOut R.takes self.old
+            (take count (main_rows (grid_of self.old.state.screen))) self.new) }
+        ensures failed { OnErr result R.fails }
+    {
+        for at in 0..count.min(self.state.screen.main_height()) {
+            let row = self.state.screen.main_row(at);
+            self.rows.take_row(row, &self.state.styles)?;
+        }
+        Ok(())
+    }
+
+    /// Gives the screen so many columns and rows, once the rows that leave it are handed out.
+    pub fn resize(&mut self, columns: u16, rows: u16) -> Result<(), AllocError>
+        ensures ok { OnOk result (KeepsSize R.takes self.old rows columns self.new) }
+        ensures failed { OnErr result (Refused A ⊎ R.fails) }
+    {
+        let leaving = self.state.screen.leaving_rows(rows);
+        self.hand_out_first(leaving)?;
+        self.state.resize(columns, rows)
     }
 
     // Whether the row of the cursor has columns for so many characters.

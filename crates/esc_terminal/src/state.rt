@@ -11,6 +11,7 @@ ghost use Rattle.esc_screen.specs.Screens.{grid_of, size_of};
 ghost use Rattle.esc_terminal.specs.Fed.{Does, Takes, TakesAll, TakesFunction, TakesSequence, TakesSteps, known_in, requests_in, screen_size};
 ghost use Rattle.esc_terminal.specs.Links.{first_known, known_by_lead, known_by_look, known_look, lead_in, lead_in_parts, lead_of};
 ghost use Rattle.esc_terminal.specs.Requests.{request_list};
+ghost use Rattle.esc_terminal.specs.Resized.{GetsSize};
 ghost use Rattle.esc_terminal.specs.Steps.{choice_steps, lead_known, lead_steps, mode_steps, selected_steps};
 ghost use Rattle.esc_terminal.specs.Streams.{title_by_command};
 ghost use Rattle.typed_functions.specs.Functions.{value_of as function_value};
@@ -287,6 +288,15 @@ impl<A: Allocator> State<A> {
 }
 
 impl<A: Allocator + Copy> State<A> {
+    /// Gives the screen so many columns and rows.
+    pub fn resize(&mut self, columns: u16, rows: u16) -> Result<(), AllocError>
+        ensures resized { OnOk result (GetsSize self.old rows columns self.new) }
+        ensures unchanged { OnErr result (self.new ≡ self.old) }
+        ensures refused { OnErr result (Refused A) }
+    {
+        self.screen.resize(rows, columns)
+    }
+
     // Takes a command of these parts, which has no other reading.
     fn lead_in_parts(&mut self, parts: &[Items<u8, A>]) -> Result<(), AllocError>
         ensures ok { OnOk result (Does self.old

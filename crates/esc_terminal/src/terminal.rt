@@ -1,5 +1,6 @@
 //! A terminal.
 ghost use Rattle.std.specs.Prelude.{◌≡◌, ◌⊎◌, [], IfOk, IfSome, IsErr, IsSomeAnd, OnErr, OnOk};
+ghost use Rattle.std.specs.List.{FoldsTo};
 ghost use Rattle.std.specs.Option.{option_map};
 ghost use Rattle.esc_terminal.specs.Fed.{asked_in, screen_in, styles_in, title_in};
 ghost use Rattle.fallible_alloc.specs.Refusals.{Refused};
@@ -29,6 +30,7 @@ pub struct Terminal<A: Allocator = Global> {
 impl<A: Allocator + Copy> Terminal<A> {
     ghost use Rattle.esc_terminal.specs.Fed.{After, IsBroken, TakesIn, HasConsumed, for_log, requests_now, screen_size};
     ghost use Rattle.esc_terminal.specs.Kept.{KeepsIn};
+    ghost use Rattle.esc_terminal.specs.Resized.{From, StandsWith, off_by_size};
 
     /// A terminal of so many columns and rows at the beginning of a stream: each should be 1 at
     /// least.
@@ -111,6 +113,56 @@ impl<A: Allocator + Copy> Terminal<A> {
                 (Ok(()), rows)
             }
             Err(_) => (Err(AllocError), rows),
+        }
+    }
+
+    /// Gives its screen so many columns and rows, each of which should be 1 at least, as xterm does
+    /// ([`Screen::resize`]). Its looks, links, title and requests stay.
+    ///
+    /// The error is that a request for memory was refused: it is as before then. After an error of
+    /// [`feed`](Self::feed), it is that one.
+    pub fn resize(&mut self, columns: u16, rows: u16) -> Result<(), AllocError>
+        ensures resized { From self.old
+            (λ z x s. OnOk result (StandsWith z x s columns rows self.new)) }
+        ensures refused { OnErr result (Refused A ⊎ IsBroken self.old) }
+        ensures unchanged { OnErr result (self.new ≡ self.old) }
+        ensures failed { IsBroken self.old → IsErr result }
+    {
+        match &mut self.state {
+            Some(state) => state.resize(columns, rows),
+            None => Err(AllocError),
+        }
+    }
+
+    /// Gives its screen so many columns and rows, as [`resize`](Self::resize) does, and hands each
+    /// row that leaves the main screen at the top to `sink`, which it returns.
+    ///
+    /// The error is that of `resize`, or that `sink` returned one: there is no screen from then on.
+    pub fn resize_into<R: Rows>(
+        &mut self,
+        columns: u16,
+        rows: u16,
+        sink: R,
+    ) -> (Result<(), AllocError>, R)
+        ensures resized { From self.old
+            (λ z x s. OnOk result.0 (StandsWith z x s columns rows self.new
+            × FoldsTo R.takes sink (off_by_size rows x) result.1)) }
+        ensures refused { From self.old (λ z x s. OnErr result.0 (Refused A ⊎ R.fails)) }
+        ensures broken { OnErr result.0 (IsBroken self.new) }
+        ensures failed { IsBroken self.old → IsErr result.0 × IsBroken self.new }
+    {
+        let Some(state) = self.state.take() else {
+            return (Err(AllocError), sink);
+        };
+        let mut keeping = Keeping { state, rows: sink };
+        let result = keeping.resize(columns, rows);
+        let Keeping { state, rows: sink } = keeping;
+        match result {
+            Ok(()) => {
+                self.state = Some(state);
+                (Ok(()), sink)
+            }
+            Err(_) => (Err(AllocError), sink),
         }
     }
 }

@@ -102,7 +102,7 @@ length_shifted more l k m n xs =
 
 -- ---- widths
 
-wide_append : (n : ℕ) (xs ys : List (List Cell)) → AreWide n xs → AreWide n ys
+pub wide_append : (n : ℕ) (xs ys : List (List Cell)) → AreWide n xs → AreWide n ys
     → AreWide n (xs ++ ys)
 wide_append n [] ys h k = k
 wide_append n (x ∷ xs) ys h k = (h.0, wide_append n xs ys h.1 k)

@@ -1,5 +1,5 @@
 -- Tab stops.
-use Rattle.std.proofs.Common.{ℕ, zero, suc, ◌≡◌, ◌+◌, ◌%◌, ◌==◌, ◌<◌, ◌≤◌, Bool, false, List, [], ◌∷◌, ◌++◌, length, set, take, drop, get_or, refl, ap, sym, ◌∙◌, append_assoc, append-nil, arith}
+use Rattle.std.proofs.Common.{ℕ, zero, suc, ◌≡◌, ◌+◌, ◌-◌, ◌%◌, ◌==◌, ◌<◌, ◌≤◌, Bool, false, List, [], ◌∷◌, ◌++◌, length, replicate, set, take, drop, get_or, refl, ap, sym, ◌∙◌, append_assoc, append-nil, arith}
 use Rattle.std.proofs.lemmas.List.{drop_all, drop_more, length-take-le, set_at, take_all, take_more}
 use Rattle.esc_screen.specs.Cursors.{eighths}
 
@@ -50,3 +50,29 @@ eighth_more i t less =
   where
     same : (i : ℕ) → 0 + i ≡ i
     same i = omega arith
+
+-- ---- columns that are new
+
+eighths_more : (k n : ℕ) → eighths k (replicate n false) ++ ((k + n) % 8 == 0) ∷ []
+    ≡ eighths k (replicate (suc n) false)
+eighths_more k zero = ap (λ i. (i % 8 == 0) ∷ []) (none k)
+  where
+    none : (k : ℕ) → k + 0 ≡ k
+    none k = omega arith
+eighths_more k (suc n) = ap (λ z. (k % 8 == 0) ∷ z)
+    (ap (λ i. eighths (k + 1) (replicate n false) ++ (i % 8 == 0) ∷ []) (one k n)
+    ∙ eighths_more (k + 1) n)
+  where
+    one : (k n : ℕ) → k + suc n ≡ k + 1 + n
+    one k n = omega arith
+
+-- one column more
+pub stop_more : (i m : ℕ) (bs : List Bool) → m ≤ i
+    → (bs ++ eighths m (replicate (i - m) false)) ++ (i % 8 == 0) ∷ []
+    ≡ bs ++ eighths m (replicate (i + 1 - m) false)
+stop_more i m bs from =
+    let there : i ≡ m + (i - m) = omega (arith, from) in
+    let one : suc (i - m) ≡ i + 1 - m = omega (arith, from) in
+    append_assoc bs (eighths m (replicate (i - m) false)) ((i % 8 == 0) ∷ [])
+    ∙ ap (λ z. bs ++ z) (ap (λ n. eighths m (replicate (i - m) false) ++ (n % 8 == 0) ∷ []) there
+    ∙ eighths_more m (i - m) ∙ ap (λ n. eighths m (replicate n false)) one)

@@ -32,16 +32,16 @@ use Rattle.esc_screen.proofs.Whole.RowsStayWhole.{whole_deleted, whole_erased, w
 
 -- ---- rows
 
-rows_append : (xs ys : List (List Cell)) → AreWhole xs → AreWhole ys → AreWhole (xs ++ ys)
+pub rows_append : (xs ys : List (List Cell)) → AreWhole xs → AreWhole ys → AreWhole (xs ++ ys)
 rows_append [] ys h k = k
 rows_append (x ∷ xs) ys h k = (h.0, rows_append xs ys h.1 k)
 
-rows_take : (n : ℕ) (xs : List (List Cell)) → AreWhole xs → AreWhole (take n xs)
+pub rows_take : (n : ℕ) (xs : List (List Cell)) → AreWhole xs → AreWhole (take n xs)
 rows_take zero xs h = omega arith
 rows_take (suc n) [] h = omega arith
 rows_take (suc n) (x ∷ xs) h = (h.0, rows_take n xs h.1)
 
-rows_drop : (n : ℕ) (xs : List (List Cell)) → AreWhole xs → AreWhole (drop n xs)
+pub rows_drop : (n : ℕ) (xs : List (List Cell)) → AreWhole xs → AreWhole (drop n xs)
 rows_drop zero xs h = h
 rows_drop (suc n) [] h = omega arith
 rows_drop (suc n) (x ∷ xs) h = rows_drop n xs h.1
@@ -496,7 +496,7 @@ stays_whole s g [] o h = h
 stays_whole s g (x ∷ xs) o h =
     stays_whole s (grid_by s g x) xs (sound_by s g x o) (whole_by s g x o h)
 
-first_rows : (l c n : ℕ) → AreWhole (replicate n (blank_row l c))
+pub first_rows : (l c n : ℕ) → AreWhole (replicate n (blank_row l c))
 first_rows l c zero = omega arith
 first_rows l c (suc n) = (whole_filled (blank l) c refl refl, first_rows l c n)
 

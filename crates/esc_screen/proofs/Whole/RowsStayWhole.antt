@@ -1,11 +1,12 @@
 -- No half of a wide character stands alone: rows.
-use Rattle.std.proofs.Common.{ℕ, suc, zero, ◌≡◌, ◌+◌, ◌-◌, ◌<◌, ◌≤◌, max, nat_lt, Bool, true, false, inl, inr, List, [], ◌∷◌, ◌++◌, length, set, take, drop, replicate, get_or, if◌then◌else◌, refl, ap, sym, subst, ◌∙◌, arith}
+use Rattle.std.proofs.Common.{ℕ, suc, zero, ◌≡◌, ◌+◌, ◌-◌, ◌<◌, ◌≤◌, max, nat_lt, Bool, true, false, inl, inr, List, [], ◌∷◌, ◌++◌, length, set, take, drop, replicate, get_or, if◌then◌else◌, refl, ap, sym, subst, ◌∙◌, append-nil, arith}
 use Rattle.std.proofs.lemmas.Bool.{cases_Bool, true≢false}
 use Rattle.std.proofs.lemmas.Bool.Decides.{nat_tests}
 use Rattle.std.proofs.lemmas.List.{get_or-drop, length-drop, take_all}
 use Rattle.esc_screen.specs.Lists.{in_part, moved_down, moved_up}
-use Rattle.esc_screen.specs.Cells.{blank, cell, cleared_cells, cut_row, deleted_cells, drawn_cell, emptied_cells, erased_cells, filled_cells, filled_part, inserted_cells, is_rest, is_rest_content, joined_at, joined_cell, marked_cells, marked_cell, marked_content, no_marks, cells_with, put_wide, shifted_cells, start_of}
+use Rattle.esc_screen.specs.Cells.{blank, blank_row, cell, cleared_cells, cut_row, deleted_cells, drawn_cell, emptied_cells, erased_cells, filled_cells, filled_part, inserted_cells, is_rest, is_rest_content, joined_at, joined_cell, marked_cells, marked_cell, marked_content, no_marks, cells_with, put_wide, shifted_cells, start_of}
 use Rattle.esc_screen.specs.Halves.{GoOn, IsWhole, is_wide, is_wide_content}
+use Rattle.esc_screen.specs.Resized.{resized_row}
 use Rattle.esc_screen.specs.declared.cell.Cell.{Cell}
 use Rattle.esc_screen.specs.declared.content.Content.{Content}
 use Rattle.esc_screen.specs.declared.content.Content.TheVariants as content
@@ -282,3 +283,21 @@ pub whole_shifted : (more : Bool) (l k m n : ℕ) (xs : List Cell) → length xs
     → IsWhole xs → IsWhole (shifted_cells more l k m n xs)
 whole_shifted true l k m n xs len within h = whole_inserted l k m n xs len within h
 whole_shifted false l k m n xs len within h = whole_deleted l k m n xs len h
+
+-- ---- another number of columns
+
+pub whole_resized : (n : ℕ) (xs : List Cell) → IsWhole xs → IsWhole (resized_row n xs)
+whole_resized n xs h =
+    go_append false (take n (cut_row n xs)) _
+    (go_take false n (cut_row n xs) (whole_cut n xs h) (edge_cut n xs))
+    (whole_filled (blank 0) (n - length xs) refl refl)
+
+-- a row that has as many is the same
+pub same_resized : (n : ℕ) (xs : List Cell) → length xs ≡ n → resized_row n xs ≡ xs
+same_resized n xs e =
+    let all : length xs ≤ n = omega (arith, e) in
+    let none : n - length xs ≡ 0 = omega (arith, e) in
+    ap (λ b. take n (if b then emptied_cells n (emptied_cells (n - 1) xs) else xs)
+    ++ blank_row 0 (n - length xs)) (edge_past n xs all)
+    ∙ ap (λ k. take n xs ++ blank_row 0 k) none
+    ∙ append-nil (take n xs) ∙ take_all n xs all
