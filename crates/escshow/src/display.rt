@@ -8,6 +8,15 @@ use std::alloc::{AllocError, Global};
 // Ends a sequence that is unfinished (CAN), and shows the main screen.
 const TO_MAIN: &[u8] = b"\x18\x1b[?47l";
 
+/// A text or a size that a recording gives its terminal.
+#[derive(Clone, Copy)]
+pub enum Output<'a> {
+    /// The text.
+    Text(&'a str),
+    /// The size.
+    Size(Size),
+}
+
 /// A terminal, and the lines that it leaves, if they are asked for.
 #[derive(Drop)]
 pub struct Display {
@@ -50,6 +59,24 @@ impl Display {
         let (result, log) = self.terminal.feed_into(bytes, log);
         self.log = Some(log);
         result
+    }
+
+    // Gives the terminal another size.
+    fn resize(&mut self, size: Size) -> Result<(), AllocError> {
+        let Some(log) = self.log.take() else {
+            return self.terminal.resize(size.columns, size.rows);
+        };
+        let (result, log) = self.terminal.resize_into(size.columns, size.rows, log);
+        self.log = Some(log);
+        result
+    }
+
+    /// Takes a text or a size of a recording.
+    pub fn take(&mut self, output: Output<'_>) -> Result<(), AllocError> {
+        match output {
+            Output::Text(text) => self.feed(text.as_bytes()),
+            Output::Size(size) => self.resize(size),
+        }
     }
 
     /// Adds the rows of the main screen to the lines, if they are asked for.

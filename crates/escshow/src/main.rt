@@ -38,7 +38,7 @@ Prints the screen that a terminal shows at the end of each FILE, or of standard 
 text.
 
   --size size     the size of the screen in columns and rows, as 80x24, which it is where none is
-                  named; of a recording, that of its header
+                  named; of a recording, that of its header, and later that of its events
   --log           prints all lines that the terminal leaves: the rows that were scrolled off, and
                   then those of the screen
   --newline       takes a line feed to the first column too, as in a file of text (the mode LNM)
@@ -49,7 +49,7 @@ text.
   --cast          takes each FILE as a recording of asciinema, version 2 or 3
   --at seconds    shows the screen of a recording at this time, as 12.5, and not at its end
   --every seconds shows one screen after another of a recording, for each stretch of so many seconds
-                  that has output, with the time of its last output
+                  that has output or a change of size, with the time of the last
   --diff          compares the screens of two FILEs, and says in which cells they differ
   -o, --output f  writes the file f, whole or not at all
   -h, --help      prints this

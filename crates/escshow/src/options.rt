@@ -154,6 +154,13 @@ impl Size {
         })
     }
 
+    /// Returns the size that a word of a recording names: columns, `x` and rows, but 1 at least and
+    /// 1000 at most of each.
+    pub fn limited(word: &str) -> Option<Size> {
+        let (columns, rows) = word.split_once('x')?;
+        Some(Size::within(number_of(columns)?, number_of(rows)?))
+    }
+
     /// Returns the size of so many columns and rows, but 1 at least and 1000 at most of each.
     pub fn within(columns: u64, rows: u64) -> Size {
         Size {
@@ -169,6 +176,11 @@ fn count_of(word: &str) -> Option<u16> {
         Ok(count) if 0 < count && count <= MOST => Some(count),
         _ => None,
     }
+}
+
+// Returns the number that a word names.
+fn number_of(word: &str) -> Option<u64> {
+    word.parse::<u64>().ok()
 }
 
 // Returns this number, but 1 at least and 1000 at most.

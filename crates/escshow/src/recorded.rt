@@ -1,6 +1,6 @@
 //! A recording that is played.
 
-use crate::display::Display;
+use crate::display::{Display, Output};
 use crate::fault::Fault;
 use crate::frames::Frames;
 use crate::options::{DEFAULT_SIZE, Options, Size};
@@ -108,11 +108,15 @@ impl Recorded {
         match event {
             Event::Output(time, text) => {
                 self.clock.pass(time, self.options.at);
-                self.print(text, frames)
+                self.play(Output::Text(text), frames)
             }
-            Event::Input(time, _) | Event::Passed(time) => {
+            Event::Input(time, _) => {
                 self.clock.pass(time, self.options.at);
                 Ok(())
+            }
+            Event::Passed(time) => {
+                self.clock.pass(time, self.options.at);
+                self.resize(line, frames)
             }
             Event::Header(is_relative) => {
                 self.clock.is_relative = is_relative;
@@ -123,9 +127,20 @@ impl Recorded {
         }
     }
 
-    // Gives the terminal a text, if that is not too late. Before it, the screen goes to `frames` if
-    // the text is the first of another stretch of time.
-    fn print<F: Frames>(&mut self, text: &str, frames: &mut F) -> Result<(), Fault> {
+    // Gives the terminal the size that an event of the kind `r` names, unless one was asked for.
+    fn resize<F: Frames>(&mut self, line: &str, frames: &mut F) -> Result<(), Fault> {
+        if self.options.size.is_some() {
+            return Ok(());
+        }
+        match new_size_in(self.alloc, line)? {
+            Some(size) => self.play(Output::Size(size), frames),
+            None => Ok(()),
+        }
+    }
+
+    // Gives the terminal a text, or a size, if that is not too late. Before it, the screen goes to
+    // `frames` if it is the first of another stretch of time.
+    fn play<F: Frames>(&mut self, output: Output<'_>, frames: &mut F) -> Result<(), Fault> {
         if self.clock.is_over {
             return Ok(());
         }
@@ -135,7 +150,7 @@ impl Recorded {
                     frames.take_frame(display)?;
                 }
                 display.time = Some(self.clock.now);
-                Ok(display.feed(text.as_bytes())?)
+                Ok(display.take(output)?)
             }
             None => Err(Fault::Line(self.count)),
         }
@@ -178,8 +193,7 @@ impl Clock {
 }
 
 // Returns the size that a header has: `width` and `height`, and from version 3 on `cols` and `rows`
-// of
-// `term`.
+// of `term`.
 fn size_in(alloc: Global, header: &str) -> Result<Size, Fault> {
     let mut scratch = Scratch::new(alloc);
     let Ok(value) = Value::parse(alloc, header, &mut scratch) else {
@@ -197,4 +211,20 @@ fn size_of(value: &Value<'_>, columns: &str, rows: &str) -> Option<Size> {
     let columns = value.get(columns)?.as_u64()?;
     let rows = value.get(rows)?.as_u64()?;
     Some(Size::within(columns, rows))
+}
+
+// Returns the size that an event has, if it is of the kind `r`: columns, `x` and rows.
+fn new_size_in(alloc: Global, event: &str) -> Result<Option<Size>, Fault> {
+    let mut scratch = Scratch::new(alloc);
+    let Ok(value) = Value::parse(alloc, event, &mut scratch) else {
+        return Err(Fault::Memory);
+    };
+    Ok(new_size_of(&value))
+}
+
+fn new_size_of(event: &Value<'_>) -> Option<Size> {
+    match event.at(1)?.as_str()? {
+        "r" => Size::limited(event.at(2)?.as_str()?),
+        _ => None,
+    }
 }
