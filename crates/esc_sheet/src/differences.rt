@@ -5,7 +5,9 @@ use crate::sheet::Sheet;
 use crate::view::View;
 use esc_links::Hyperlink;
 use esc_screen::{Cell, Content, Marks, Screen};
+use esc_sequences::Underline;
 use esc_sgr::is_same;
+use esc_style::Look;
 use std::alloc::AllocError;
 
 /// Adds a line for each run of cells in a row that differ, as `row 1, columns 3 to 4: "ab" and
@@ -66,11 +68,37 @@ fn is_same_at(cells: (&[Cell], &[Cell]), views: (View<'_>, View<'_>), at: usize)
     match (cells.0.get(at), cells.1.get(at)) {
         (Some(one), Some(other)) => {
             is_same_content(one.content, other.content)
-                && is_same(&views.0.look_of(one), &views.1.look_of(other))
+                && is_same(&seen_look(one, views.0), &seen_look(other, views.1))
                 && is_same_link(views.0.link_of(one), views.1.link_of(other))
         }
         _ => true,
     }
+}
+
+// Returns what is seen of the look of a cell: of one without a character, the colour around it
+// alone, unless it has a line or is inverse.
+fn seen_look(cell: &Cell, view: View<'_>) -> Look {
+    let look = view.look_of(cell);
+    if !is_blank(cell.content) || look.inverse || has_line(&look) {
+        return look;
+    }
+    let mut seen = Look::plain();
+    seen.background = look.background;
+    seen
+}
+
+// Returns whether a cell has no character that is seen.
+fn is_blank(content: Content) -> bool {
+    match content {
+        Content::Blank => true,
+        Content::Narrow(c, marks) => is_space(c, marks),
+        Content::Wide(_, _) | Content::Rest => false,
+    }
+}
+
+// Returns whether characters have a line below, above or through them.
+fn has_line(look: &Look) -> bool {
+    look.strikethrough || look.overline || !matches!(look.underline, Underline::None)
 }
 
 // Returns whether two links are the same.

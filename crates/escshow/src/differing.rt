@@ -1,7 +1,7 @@
 //! This module says in which cells the screens of two streams differ.
 
 use crate::display::Display;
-use crate::fault::{Fault, ended};
+use crate::fault::{Fault, ended, tell_cut};
 use crate::frames::Frames;
 use crate::options::Options;
 use crate::reading::display_of;
@@ -31,7 +31,10 @@ pub struct Differing<'a, W, E> {
 impl<'a, W: Write, E: Write> Work for Differing<'a, W, E> {
     fn take<R: Read + Drop>(&mut self, name: &str, input: R) -> Ended {
         let done = match display_of(self.alloc, self.options, input, self) {
-            Ok(display) => self.take_terminal(display.terminal),
+            Ok(display) => {
+                tell_cut(name, display.cut, &mut self.faults);
+                self.take_terminal(display.terminal)
+            }
             Err(fault) => Err(fault),
         };
         ended(done, name, self.output_name, &mut self.faults)

@@ -5,8 +5,11 @@ use esc_sheet::Log;
 use esc_terminal::Terminal;
 use std::alloc::{AllocError, Global};
 
-// Ends a sequence that is unfinished (CAN), and shows the main screen.
-const TO_MAIN: &[u8] = b"\x18\x1b[?47l";
+// Ends a character or a sequence that is unfinished (CAN).
+const END: &[u8] = b"\x18";
+
+// Shows the main screen.
+const TO_MAIN: &[u8] = b"\x1b[?47l";
 
 /// A text or a size that a recording gives its terminal.
 #[derive(Clone, Copy)]
@@ -24,8 +27,10 @@ pub struct Display {
     pub terminal: Terminal,
     /// The lines.
     pub log: Option<Log>,
-    /// The time of the last output of a recording, in seconds.
-    pub time: Option<f64>,
+    /// The time of the last output of a recording, in microseconds.
+    pub time: Option<u64>,
+    /// The number of the line in which a recording is cut, if it is.
+    pub cut: Option<u64>,
 }
 
 impl Display {
@@ -48,6 +53,7 @@ impl Display {
             terminal,
             log,
             time: None,
+            cut: None,
         })
     }
 
@@ -79,8 +85,10 @@ impl Display {
         }
     }
 
-    /// Adds the rows of the main screen to the lines, if they are asked for.
+    /// Ends a character or a sequence that is unfinished, and adds the rows of the main screen to
+    /// the lines, if they are asked for.
     pub fn end(&mut self) -> Result<(), AllocError> {
+        self.feed(END)?;
         let Some(log) = &mut self.log else {
             return Ok(());
         };

@@ -55,6 +55,18 @@ pub fn ended<E: Write>(
     }
 }
 
+/// Writes a line on `faults`, if the file of this name is cut in a line: the number of that.
+pub fn tell_cut<E: Write>(name: &str, cut: Option<u64>, faults: &mut E) {
+    let Some(number) = cut else {
+        return;
+    };
+    let name = Shown(name);
+    let _ = writeln!(
+        faults,
+        "{PROGRAM}: {name}: it is cut in line {number}, which is left out"
+    );
+}
+
 // Writes a line on `faults`: that a line of the file of this name is none of a recording.
 fn tell_line<E: Write>(name: &str, number: u64, faults: &mut E) {
     let name = Shown(name);

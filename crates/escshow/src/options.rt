@@ -1,6 +1,7 @@
 //! The task that the program's words ask for.
 
 use command_line::{Found, Given, Known, Takes, Wrong, read};
+use dump_time::micros_in;
 use std::alloc::Global;
 
 /// Says how a screen is written.
@@ -40,12 +41,12 @@ pub struct Options {
     pub has_new_lines: bool,
     /// Says whether a file is a recording.
     pub is_cast: bool,
-    /// The time of a recording at which its screen is shown, in seconds; at its end, if there is
-    /// none.
-    pub at: Option<f64>,
-    /// The seconds between the screens of a recording that are shown; one screen alone is shown, if
-    /// there is none.
-    pub every: Option<f64>,
+    /// The time of a recording at which its screen is shown, in microseconds; at its end, if there
+    /// is none.
+    pub at: Option<u64>,
+    /// The microseconds between the screens of a recording that are shown; one screen alone is
+    /// shown, if there is none.
+    pub every: Option<u64>,
 }
 
 /// The work of the program.
@@ -205,10 +206,10 @@ impl Options {
     }
 
     // Takes --every: the lines of a recording come once, and a picture is of one screen.
-    fn take_every(&mut self, seconds: f64) {
+    fn take_every(&mut self, micros: u64) {
         self.is_cast = true;
         self.is_log = false;
-        self.every = Some(seconds);
+        self.every = Some(micros);
         if self.form == Form::Svg {
             self.form = Form::Text;
         }
@@ -325,18 +326,26 @@ fn size_named(word: &str) -> Result<Size, Wrong<'_>> {
     }
 }
 
-// Returns the time that a word names, in seconds.
-fn time_named(word: &str) -> Result<f64, Wrong<'_>> {
-    match word.parse::<f64>() {
-        Ok(time) if time >= 0.0 => Ok(time),
-        _ => Err(Wrong::Value("--at", "time in seconds", word, None)),
+// Returns the microseconds of the time that a word names, in seconds.
+fn time_named(word: &str) -> Result<u64, Wrong<'_>> {
+    match micros_named(word) {
+        Some(time) => Ok(time),
+        None => Err(Wrong::Value("--at", "time in seconds", word, None)),
     }
 }
 
-// Returns the length of the stretch that a word names, in seconds: a thousandth at least.
-fn stretch_named(word: &str) -> Result<f64, Wrong<'_>> {
-    match word.parse::<f64>() {
-        Ok(seconds) if seconds >= 0.001 => Ok(seconds),
+// Returns the microseconds of the stretch that a word names, in seconds: a thousandth at least.
+fn stretch_named(word: &str) -> Result<u64, Wrong<'_>> {
+    match micros_named(word) {
+        Some(micros) if micros >= 1000 => Ok(micros),
         _ => Err(Wrong::Value("--every", "time in seconds", word, None)),
+    }
+}
+
+// Returns the microseconds of so many seconds, without a sign.
+fn micros_named(word: &str) -> Option<u64> {
+    match word.as_bytes() {
+        [b'-', ..] => None,
+        digits => micros_in(digits),
     }
 }

@@ -5,10 +5,10 @@ use crate::fault::Fault;
 use crate::frames::Frames;
 use crate::options::{DEFAULT_SIZE, Options, Size};
 use asciicast::{Event, event_in};
+use dump_time::micros_in;
 use json::{Scratch, Value};
 use memchr::memchr;
 use std::alloc::Global;
-use std::num::saturating_f64_to_u64;
 use std::{mem, str};
 
 /// A recording, line by line, and the terminal that got the texts of its events.
@@ -29,8 +29,8 @@ pub struct Recorded {
 // The time of a recording.
 #[derive(Clone, Copy)]
 struct Clock {
-    // the time of the last event, in seconds
-    now: f64,
+    // the time of the last event, in microseconds
+    now: u64,
     // says whether the time of an event is counted from the event before
     is_relative: bool,
     // says whether an event came after the time that is asked for
@@ -47,7 +47,7 @@ impl Recorded {
             line: Vec::new(alloc),
             count: 0,
             clock: Clock {
-                now: 0.0,
+                now: 0,
                 is_relative: false,
                 is_over: false,
             },
@@ -72,12 +72,27 @@ impl Recorded {
         Ok(())
     }
 
-    /// Takes the last line, if it has no line feed.
+    /// Takes the last line, if it has no line feed. If it is no line of a recording, the recording
+    /// is cut there.
     pub fn end<F: Frames>(&mut self, frames: &mut F) -> Result<(), Fault> {
         if self.line.is_empty() {
             return Ok(());
         }
-        self.end_line(frames)
+        let done = self.end_line(frames);
+        self.with_cut(done)
+    }
+
+    // Keeps the place of the cut, if the last line had this fault. Before the header there is no
+    // recording that is cut.
+    fn with_cut(&mut self, done: Result<(), Fault>) -> Result<(), Fault> {
+        let Err(Fault::Line(number)) = done else {
+            return done;
+        };
+        let Some(display) = &mut self.display else {
+            return done;
+        };
+        display.cut = Some(number);
+        Ok(())
     }
 
     /// Returns the terminal, and its lines so far. The error is that there was no header.
@@ -156,8 +171,11 @@ impl Recorded {
         }
     }
 
-    // Makes the terminal, by the header.
+    // Makes the terminal, by the header. A second header is no line of the recording.
     fn begin(&mut self, line: &str) -> Result<(), Fault> {
+        if self.display.is_some() {
+            return Err(Fault::Line(self.count));
+        }
         let size = match self.options.size {
             Some(size) => size,
             None => size_in(self.alloc, line)?,
@@ -168,21 +186,19 @@ impl Recorded {
 }
 
 impl Clock {
-    // Returns whether it is in a later stretch of so many seconds than this time was.
-    fn is_later(self, time: Option<f64>, every: Option<f64>) -> bool {
+    // Returns whether it is in a later stretch of so many microseconds than this time was.
+    fn is_later(self, time: Option<u64>, every: Option<u64>) -> bool {
         match (time, every) {
-            (Some(time), Some(every)) => {
-                saturating_f64_to_u64(time / every) < saturating_f64_to_u64(self.now / every)
-            }
+            (Some(time), Some(every)) => stretch_of(time, every) < stretch_of(self.now, every),
             _ => false,
         }
     }
 
     // Passes to the time of an event.
-    fn pass(&mut self, time: &str, end: Option<f64>) {
-        let time = time.parse::<f64>().unwrap_or(0.0);
+    fn pass(&mut self, time: &str, end: Option<u64>) {
+        let time = micros_in(time.as_bytes()).unwrap_or(0);
         self.now = if self.is_relative {
-            self.now + time
+            self.now.saturating_add(time)
         } else {
             time
         };
@@ -190,6 +206,11 @@ impl Clock {
             self.is_over = self.is_over || end < self.now;
         }
     }
+}
+
+// Returns which stretch of so many microseconds a time is in, from 0 on.
+fn stretch_of(time: u64, every: u64) -> u64 {
+    time / every.max(1)
 }
 
 // Returns the size that a header has: `width` and `height`, and from version 3 on `cols` and `rows`

@@ -2,12 +2,11 @@
 
 use fallible_alloc::{push_display, push_str};
 use std::alloc::{AllocError, Global};
-use std::num::saturating_f64_to_u64;
 
-/// Returns the line before a screen of a recording: the time in seconds, with three digits after
-/// the point.
-pub fn heading_of(alloc: Global, time: f64) -> Result<String, AllocError> {
-    let thousandths = saturating_f64_to_u64(time * 1000.0 + 0.5);
+/// Returns the line before a screen of a recording: this time, in microseconds, as seconds with
+/// three digits after the point.
+pub fn heading_of(alloc: Global, time: u64) -> Result<String, AllocError> {
+    let thousandths = time.saturating_add(500) / 1000;
     let rest = thousandths % 1000;
     let zeros = if rest < 10 {
         ".00"

@@ -4,7 +4,7 @@ ghost use Rattle.std.specs.Io.KnownBytes.{Appends};
 ghost use Rattle.esc_sheet.specs.Sheets.{AppendsSheet};
 
 use crate::display::Display;
-use crate::fault::{Fault, ended};
+use crate::fault::{Fault, ended, tell_cut};
 use crate::frames::Frames;
 use crate::html::{HEAD, html_of};
 use crate::options::{Form, Options};
@@ -34,7 +34,11 @@ pub struct Showing<'a, W, E> {
 impl<'a, W: Write, E: Write> Work for Showing<'a, W, E> {
     fn take<R: Read + Drop>(&mut self, name: &str, input: R) -> Ended {
         let done = match display_of(self.alloc, self.options, input, self) {
-            Ok(display) => self.write(&display),
+            Ok(display) => {
+                let done = self.write_last(&display);
+                tell_cut(name, display.cut, &mut self.faults);
+                done
+            }
             Err(fault) => Err(fault),
         };
         ended(done, name, self.output_name, &mut self.faults)
@@ -48,6 +52,15 @@ impl<'a, W: Write, E: Write> Frames for Showing<'a, W, E> {
 }
 
 impl<'a, W: Write, E: Write> Showing<'a, W, E> {
+    // Writes the screen at the end, unless one screen after another is asked for and nothing was
+    // output.
+    fn write_last(&mut self, display: &Display) -> Result<(), Fault> {
+        if self.options.every.is_some() && display.time.is_none() {
+            return self.write_head();
+        }
+        self.write(display)
+    }
+
     // Writes the lines that a terminal leaves, if they are asked for, or its screen.
     fn write(&mut self, display: &Display) -> Result<(), Fault> {
         if let Some(log) = &display.log {
@@ -69,7 +82,7 @@ impl<'a, W: Write, E: Write> Showing<'a, W, E> {
 
     // Writes the time of a screen of a recording, if one screen after another is written, other
     // than as JSON.
-    fn write_heading(&mut self, time: Option<f64>) -> Result<(), Fault> {
+    fn write_heading(&mut self, time: Option<u64>) -> Result<(), Fault> {
         match (self.options.every, time) {
             (Some(_), Some(time)) => match self.options.form {
                 Form::Json | Form::Svg => Ok(()),
