@@ -112,8 +112,12 @@ impl<'a, W: Write, E: Write> Converting<'a, W, E> {
         } else {
             self.take_block(name, &mut sections)
         };
-        let (lost, window) = sections.into_inner().end();
-        let ended = self.note_lost(name, ended, before, lost);
+        let (lost, mut window) = sections.into_inner().end();
+        let notes = ended == Ended::Whole && lost.is_some() && is_whole(&mut window);
+        let ended = match lost {
+            Some(lost) if notes => self.note_lost(name, ended, before, lost),
+            _ => ended,
+        };
         (self.note_images(name, ended), window)
     }
 
@@ -335,11 +339,8 @@ impl<'a, W: Write, E: Write> Converting<'a, W, E> {
 
     // Says how much a string of the stream of this name took, which nothing ended, unless it is
     // shown; so many lines come before those that were read.
-    fn note_lost(&mut self, name: &str, ended: Ended, before: u64, lost: Option<Lost>) -> Ended {
-        let Some(lost) = lost else {
-            return ended;
-        };
-        if ended != Ended::Whole || self.options.shows {
+    fn note_lost(&mut self, name: &str, ended: Ended, before: u64, lost: Lost) -> Ended {
+        if self.options.shows {
             return ended;
         }
         let lost = Lost {
@@ -449,4 +450,12 @@ impl<'a, W: Write, E: Write> Converting<'a, W, E> {
 // Whether nothing can be written after a stream that ended so.
 fn is_last(ended: Ended) -> bool {
     ended == Ended::Unwritten || ended == Ended::Closed
+}
+
+// Whether no lines are left out after those that were read, in which a string may end.
+fn is_whole<R: Read>(window: &mut Window<R>) -> bool {
+    match window.after() {
+        Ok(lines) => lines == 0,
+        Err(_) => true,
+    }
 }

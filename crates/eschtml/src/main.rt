@@ -14,7 +14,6 @@ mod lines;
 mod options;
 mod page;
 mod piped;
-mod stamp;
 mod stream;
 mod strings;
 mod style;

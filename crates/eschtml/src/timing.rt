@@ -1,8 +1,8 @@
 //! Times that lines of HTML begin with, in elements of their own.
 ghost use Rattle.std.specs.Io.{WritesAtMost};
 
-use crate::stamp::{Stamp, stamp_of};
 use memchr::{memchr, memchr2};
+use page_input::{Stamp, stamp_of};
 use std::alloc::{AllocError, Global};
 use std::io;
 use std::io::Write;

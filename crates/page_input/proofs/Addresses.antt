@@ -16,7 +16,7 @@ is_short : (n : ℕ) → n ≤ longest → nat_le n longest ≡ true
 is_short n h = grind (arith, nat_tests)
 
 pub address_is : (run : ℕ) (s x : List ℕ) → x ≡ take (length x) (take run s)
-    → length x ≤ length (take run s) → run ≤ longest
+    → length x ≤ length (take run s) → length x ≤ longest
     → list_all is_address_byte (take run s) ≡ true → ends_in_stop x ≡ false
     → has_host x ≡ true → IsAddress (take (length x) s)
 address_is run s x is within short bytes ended host =
@@ -25,6 +25,6 @@ address_is run s x is within short bytes ended host =
       host = host;
       bytes = subst (λ y. list_all is_address_byte y ≡ true) (sym is)
           (first_pass (length x) (take run s) bytes);
-      short = is_short (length x) (omega (arith, few, short));
+      short = is_short (length x) short;
       ended = ended;
     })

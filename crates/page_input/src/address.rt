@@ -8,6 +8,10 @@ use memchr::memchr;
 // Says how many bytes of an address a link may have: as many as VTE and iTerm2 take.
 const LONGEST: usize = 2083;
 
+/// Says how many bytes an address may have with all that follows it before a byte that is in none:
+/// the stops after it, and the brackets.
+pub(crate) const MOST_RUN: usize = 4096;
+
 /// The place of an address in a text.
 #[derive(Clone, Copy)]
 pub(crate) struct Place {
@@ -20,7 +24,8 @@ pub(crate) struct Place {
 /// Returns the first address in a text that comes after this byte: `http://` or `https://`, in
 /// letters of either case, after no letter, digit or `_`, and a letter or digit, with all that may
 /// be in an address (RFC 3986, 2), without the stops that end a sentence and brackets that it does
-/// not open. One that is longer than a link may be is none.
+/// not open. One that is longer than a link may be is none, and neither is one with more than
+/// [`MOST_RUN`] bytes up to a byte that may not be in an address.
 pub(crate) fn first_address(text: &[u8], previous: u8) -> Option<Place>
     ensures { IfSome result (HasAddress previous text.now) }
 {
@@ -29,7 +34,7 @@ pub(crate) fn first_address(text: &[u8], previous: u8) -> Option<Place>
         let colon = text.len().saturating_sub(rest.len()).saturating_add(at);
         rest = &rest[at + 1..];
         let scheme = scheme_length(text.get(..colon).unwrap_or(text));
-        if scheme > 0 {
+        if scheme > 0 && rest.starts_with(b"//") {
             let found = address_at(text, colon.saturating_sub(scheme), previous);
             if found.is_some() {
                 return found;
@@ -91,10 +96,13 @@ fn address_length(text: &[u8]) -> usize
     ensures found { 0 < result → IsAddress (take result text.now) }
 {
     let run = address_run(text);
-    if LONGEST < run {
+    if MOST_RUN < run {
         return 0;
     }
     let address = without_end(&text[..run]);
+    if LONGEST < address.len() {
+        return 0;
+    }
     if has_host(address) { address.len() } else { 0 }
 }
 
@@ -161,14 +169,14 @@ fn is_word(byte: u8) -> bool
     byte.is_ascii_alphanumeric() || byte == b'_'
 }
 
-/// Returns how many bytes come first that may be in an address, up to one more than a link may
-/// have.
-pub(crate) fn address_run(text: &[u8]) -> usize
+// Returns how many bytes come first that may be in an address, up to one more than an address may
+// have with those after it.
+fn address_run(text: &[u8]) -> usize
     ensures within { result ≤ length text.now }
     ensures bytes { list_all is_address_byte (take result text.now) ≡ true }
 {
     let mut n = 0usize;
-    while n < text.len() && n <= LONGEST {
+    while n < text.len() && n <= MOST_RUN {
         if !is_address_byte(text[n]) {
             return n;
         }

@@ -5,8 +5,18 @@ use esc_decode::Encoding;
 use esc_frame::{VTActor, VTParser};
 use esc_pen::Pen;
 use esc_values::CsiParam;
+use memchr::memchr3;
 use std::alloc::{AllocError, Global};
 use typed_functions::Function;
+
+// The controls that begin a line, beside a line feed.
+const VT: u8 = 0x0b;
+
+const FF: u8 = 0x0c;
+
+const IND: u8 = 0x84;
+
+const NEL: u8 = 0x85;
 
 /// The renditions that hold after some of a stream.
 #[derive(Drop)]
@@ -24,7 +34,10 @@ impl Carried {
             encoding,
             sieve: Sieve::new(encoding),
             framer: VTParser::with_limit(alloc, 0),
-            hold: Hold { pen: Pen::plain() },
+            hold: Hold {
+                pen: Pen::plain(),
+                begins_line: false,
+            },
         }
     }
 
@@ -48,6 +61,34 @@ impl Carried {
             Lead::Text(length) => length,
             Lead::Control(_, _) | Lead::More => 0,
         }
+    }
+
+    /// Takes some of these bytes, no more than a line has; returns how many, and whether a line
+    /// begins after them: after LF, VT, FF, IND and NEL.
+    pub fn take_some(&mut self, bytes: &[u8]) -> (usize, bool) {
+        let length = self.text_length(bytes).min(bytes.len());
+        let text = &bytes[..length];
+        if text.is_empty() {
+            return self.follow_some(bytes);
+        }
+        let count = match memchr3(b'\n', VT, FF, text) {
+            Some(at) => at.saturating_add(1).min(text.len()),
+            None => {
+                self.pass(text);
+                return (text.len(), false);
+            }
+        };
+        self.pass(&text[..count]);
+        (count, true)
+    }
+
+    // Does the same for bytes that begin or go on with a segment.
+    fn follow_some(&mut self, bytes: &[u8]) -> (usize, bool) {
+        if self.is_ground() {
+            self.hold.begins_line = false;
+        }
+        let count = self.follow(bytes);
+        (count, self.is_ground() && self.hold.begins_line)
     }
 
     /// Passes text before the next segment.
@@ -93,6 +134,8 @@ impl Carried {
 #[derive(Drop)]
 struct Hold {
     pen: Pen,
+    // says whether a line begins after the segment that was followed
+    begins_line: bool,
 }
 
 impl VTActor for Hold {
@@ -108,7 +151,10 @@ impl VTActor for Hold {
         Ok(())
     }
 
-    fn execute_c0_or_c1(&mut self, _control: u8) -> Result<(), AllocError> {
+    fn execute_c0_or_c1(&mut self, control: u8) -> Result<(), AllocError> {
+        if matches!(control, b'\n' | VT | FF | IND | NEL) {
+            self.begins_line = true;
+        }
         Ok(())
     }
 
@@ -133,10 +179,13 @@ impl VTActor for Hold {
     fn esc_dispatch(
         &mut self,
         _params: &[i64],
-        _intermediates: &[u8],
+        intermediates: &[u8],
         _ignored_extra_intermediates: bool,
-        _byte: u8,
+        byte: u8,
     ) -> Result<(), AllocError> {
+        if intermediates.is_empty() && (byte == b'D' || byte == b'E') {
+            self.begins_line = true;
+        }
         Ok(())
     }
 
@@ -146,10 +195,7 @@ impl VTActor for Hold {
         parameters_truncated: bool,
         byte: u8,
     ) -> Result<(), AllocError> {
-        if parameters_truncated {
-            return Ok(());
-        }
-        if let Function::Sgr(renditions) = Function::of_params(params, byte) {
+        if let Function::Sgr(renditions) = function_of(params, parameters_truncated, byte) {
             self.pen.select_all(renditions);
         }
         Ok(())
@@ -161,5 +207,14 @@ impl VTActor for Hold {
 
     fn apc_dispatch(&mut self, _text: &[u8]) -> Result<(), AllocError> {
         Ok(())
+    }
+}
+
+// Returns the function of a control sequence. Of more parameters than are kept the first count.
+fn function_of(params: &[CsiParam], parameters_truncated: bool, byte: u8) -> Function<'_> {
+    if parameters_truncated {
+        Function::of_kept(params, byte)
+    } else {
+        Function::of_params(params, byte)
     }
 }

@@ -5,7 +5,6 @@ use crate::carried::Carried;
 use crate::linking::copied;
 use dump_time::{Cast, TimeError};
 use esc_decode::Encoding;
-use memchr::memchr;
 use std::alloc::{AllocError, Global};
 use std::io;
 use std::io::Read;
@@ -160,29 +159,24 @@ impl Timed {
         }
         let mut rest = text;
         for _ in 0..text.len() {
-            let Some(at) = memchr(b'\n', rest) else {
+            if rest.is_empty() {
                 break;
-            };
-            let (line, after) = rest.split_at(at.saturating_add(1).min(rest.len()));
-            self.take_line(time, line)?;
-            self.begins_line = self.carried.is_ground();
-            rest = after;
+            }
+            let count = self.take_some(time, rest)?;
+            rest = rest.get(count.max(1)..).unwrap_or(b"");
         }
-        if rest.is_empty() {
-            return Ok(());
-        }
-        self.take_line(time, rest)?;
-        self.begins_line = false;
         Ok(())
     }
 
-    // Takes a line, or more of one.
-    fn take_line(&mut self, time: u64, text: &[u8]) -> Result<(), AllocError> {
+    // Takes some of this text, no more than a line; returns how much.
+    fn take_some(&mut self, time: u64, text: &[u8]) -> Result<usize, AllocError> {
         if self.begins_line {
             self.push_time(time)?;
         }
-        self.carried.take(text);
-        fallible_alloc::extend(&mut self.made, text)
+        let (count, begins_line) = self.carried.take_some(text);
+        self.begins_line = begins_line;
+        fallible_alloc::extend(&mut self.made, text.get(..count).unwrap_or(text))?;
+        Ok(count)
     }
 
     // Appends a time, without the renditions that hold.

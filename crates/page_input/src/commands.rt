@@ -49,6 +49,15 @@ pub(crate) fn shown(picture: Option<Picture>) -> Command {
     }
 }
 
+/// Returns the kind of a command that cannot be read, if it was to show an image or not.
+pub(crate) fn unread(shows: bool) -> Command {
+    if shows {
+        Command::Lost(Loss::Other)
+    } else {
+        Command::Other
+    }
+}
+
 /// Returns the kind of a command of sixels with this text between its opener and its end.
 pub(crate) fn sixel_command(alloc: Global, text: &[u8]) -> Result<Command, AllocError> {
     let length = header_length(text).min(text.len());
@@ -75,6 +84,12 @@ pub(crate) fn header_length(text: &[u8]) -> usize {
 /// before the first `;` are in this much of it.
 pub(crate) fn shows_image(text: &[u8], is_part: bool) -> bool {
     is_part || has_key(text.get(1..).unwrap_or(b""), b';', b',', b"a=T")
+}
+
+/// Returns whether a command of kitty with this text after its opener, which is of this kind, goes
+/// on with an image that is unfinished.
+pub(crate) fn continues_image(text: &[u8], command: &Command) -> bool {
+    !matches!(command, Command::Other) && !shows_image(text, false)
 }
 
 /// Returns whether a text has a key with this value before its end, in a list.
@@ -116,6 +131,7 @@ pub(crate) fn image_command(
         (Some(KittyImage::TransmitData { transmit, .. }), Some(image)) => {
             take_part(alloc, unfinished, limit, image, &transmit)
         }
+        (None, _) => Ok(unread(shows_image(text, false))),
         _ => Ok(Command::Other),
     }
 }

@@ -1,6 +1,6 @@
 //! Commands of iTerm2 with a file, in one command or in more.
 
-use crate::commands::{Command, Loss, has_key, is_plain, shown};
+use crate::commands::{Command, Loss, has_key, is_plain, shown, unread};
 use crate::picture::Picture;
 use esc_iterm::ITermFileData;
 use esc_values::base64_text::read_base64;
@@ -69,6 +69,12 @@ fn is_shown(keys: &[u8]) -> bool {
     has_key(keys, b':', b';', b"inline=1")
 }
 
+/// Returns whether a command of iTerm2 with this text between its number and its end goes on with a
+/// file that is unfinished, or ends it.
+pub(crate) fn continues_file(text: &[u8]) -> bool {
+    text.starts_with(PART) || text == END
+}
+
 /// Returns the kind of a command of iTerm2 with this text between its number and its end, if this
 /// file is unfinished. Parts of it come in more commands, up to one that ends it.
 pub(crate) fn file_command(
@@ -108,7 +114,8 @@ fn whole(alloc: Global, text: &[u8]) -> Result<Command, AllocError> {
             let bytes = fallible_alloc::copied(alloc, file.content.as_slice())?;
             Ok(shown(Picture::of(bytes, name)))
         }
-        _ => Ok(Command::Other),
+        Some(_) => Ok(Command::Other),
+        None => Ok(unread(is_shown(after(text, FILE).unwrap_or(b"")))),
     }
 }
 
@@ -130,7 +137,8 @@ fn begin(
             });
             Ok(Command::Part)
         }
-        _ => Ok(Command::Other),
+        Some(_) => Ok(Command::Other),
+        None => Ok(unread(is_shown(keys))),
     }
 }
 

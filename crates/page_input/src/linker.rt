@@ -2,15 +2,15 @@
 ghost use Rattle.std.specs.Prelude.{◌≡◌, ◌≤◌, ◌<◌, ◌+◌, ◌*◌, IfOk, OnOk, length};
 ghost use Rattle.page_input.specs.Linked.{weight};
 
-use crate::address::{Place, address_run, first_address, is_address_byte};
+use crate::address::{MOST_RUN, Place, first_address, is_address_byte};
 use crate::leads::{Lead, Sieve, lead_of};
 use esc_decode::Encoding;
 use esc_frame::{VTActor, VTParser};
 use esc_values::CsiParam;
 use std::alloc::{AllocError, Global};
 
-// Says how many bytes of a word are kept that may be an address.
-const MOST: usize = 4096;
+// Says how many bytes of a word that may end in an address are held before some are let go.
+const ROOM: usize = 8192;
 
 // Says how many bytes of a command are kept, to see whether it is one for a link.
 const LIMIT: usize = 4096;
@@ -18,6 +18,7 @@ const LIMIT: usize = 4096;
 /// Makes of a stream one with links around addresses, a part at a time.
 #[derive(Drop)]
 pub(crate) struct Linker {
+    alloc: Global,
     segments: Segments,
     // the end of the text, which may be in an address, and the byte before it
     held: Vec<u8>,
@@ -32,6 +33,7 @@ impl Linker {
         ensures { weight result ≡ 0 }
     {
         Linker {
+            alloc,
             segments: Segments {
                 encoding,
                 sieve: Sieve::new(encoding),
@@ -108,10 +110,10 @@ impl Linker {
         if self.held.is_empty() {
             return self.take_words(run);
         }
-        let (word, rest) = run.split_at(address_run(run));
+        let (word, rest) = run.split_at(word_length(run));
         fallible_alloc::extend(&mut self.held, word)?;
-        if rest.is_empty() && self.held.len() < MOST {
-            return Ok(());
+        if rest.is_empty() {
+            return self.let_go();
         }
         self.settle()?;
         self.take_words(rest)
@@ -121,9 +123,36 @@ impl Linker {
     fn take_words(&mut self, run: &[u8]) -> Result<(), AllocError>
         ensures { OnOk result (weight self.new ≤ weight self.old + 4 * length run.now) }
     {
-        let (text, word) = run.split_at(word_start(run));
+        let (text, word) = run.split_at(run_start(run));
         self.previous = push_linked(&mut self.made, self.previous, text)?;
-        fallible_alloc::extend(&mut self.held, word)
+        self.take_word(word)
+    }
+
+    // Takes the beginning of a word that may go on, while none is held.
+    fn take_word(&mut self, word: &[u8]) -> Result<(), AllocError>
+        ensures { OnOk result (weight self.new ≤ weight self.old + 4 * length word.now) }
+    {
+        let (text, rest) = word.split_at(word_start(word));
+        self.previous = last_of(text, self.previous);
+        fallible_alloc::extend(&mut self.made, text)?;
+        fallible_alloc::extend(&mut self.held, rest)
+    }
+
+    // Lets go the beginning of a long word that goes on: no address begins there, since too many
+    // bytes follow that may be in it.
+    fn let_go(&mut self) -> Result<(), AllocError>
+        ensures { OnOk result (weight self.new ≤ weight self.old) }
+    {
+        if self.held.len() < ROOM {
+            return Ok(());
+        }
+        let start = word_start(self.held.as_slice());
+        let (text, rest) = self.held.as_slice().split_at(start);
+        self.previous = last_of(text, self.previous);
+        fallible_alloc::extend(&mut self.made, text)?;
+        let rest = fallible_alloc::copied(self.alloc, rest)?;
+        self.held = rest;
+        Ok(())
     }
 }
 
@@ -140,9 +169,14 @@ fn push_linked(made: &mut Vec<u8>, previous: u8, text: &[u8]) -> Result<u8, Allo
         rest = &rest[place.begin + place.length..];
     }
     fallible_alloc::extend(made, rest)?;
-    match rest.last() {
-        Some(byte) => Ok(*byte),
-        None => Ok(last),
+    Ok(last_of(rest, last))
+}
+
+// Returns the last byte of a text after this byte.
+fn last_of(text: &[u8], previous: u8) -> u8 {
+    match text.last() {
+        Some(byte) => *byte,
+        None => previous,
     }
 }
 
@@ -170,15 +204,43 @@ fn push_link(made: &mut Vec<u8>, address: &[u8]) -> Result<(), AllocError>
     fallible_alloc::extend(made, b"\x1b]8;;\x1b\\")
 }
 
+// Returns how many bytes come first that may be in an address.
+fn word_length(text: &[u8]) -> usize
+    ensures { result ≤ length text.now }
+{
+    let mut count = 0usize;
+    for byte in text {
+        if !is_address_byte(*byte) {
+            break;
+        }
+        count = count.saturating_add(1);
+    }
+    count.min(text.len())
+}
+
+// Returns the beginning of the bytes at the end of a text that may be in an address.
+fn run_start(text: &[u8]) -> usize
+    ensures { result ≤ length text.now }
+{
+    let mut count = 0usize;
+    for byte in text.iter().rev() {
+        if !is_address_byte(*byte) {
+            break;
+        }
+        count = count.saturating_add(1);
+    }
+    text.len().saturating_sub(count)
+}
+
 // Returns the beginning of the bytes at the end of a text that may be in an address, from the first
-// letter on that its scheme may begin with.
+// letter on that its scheme may begin with, among those that may be the run of an address.
 fn word_start(text: &[u8]) -> usize
     ensures { result ≤ length text.now }
 {
     let mut start = text.len();
     let mut rest = text;
     while let Some((last, before)) = rest.split_last() {
-        if !is_address_byte(*last) || MOST < text.len().saturating_sub(rest.len()) {
+        if !is_address_byte(*last) || MOST_RUN < text.len().saturating_sub(rest.len()) {
             return start;
         }
         if *last == b'h' || *last == b'H' {

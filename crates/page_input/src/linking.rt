@@ -15,12 +15,12 @@ const BYTES: usize = 8192;
 /// Reads the stream of another reader, with the commands that begin and end a link (OSC 8) around
 /// each address in its text: `http://` or `https://`, after no letter, digit or `_`, and the bytes
 /// after it up to one that may not be in an address (RFC 3986, 2). The stops that end a sentence,
-/// and brackets that it does not open, are not its end. It has at most 2,083 bytes, and stands in
-/// no link of the stream.
+/// and brackets that it does not open, are not its end. It has at most 2,083 bytes, and 4,096 with
+/// these, and stands in no link of the stream.
 ///
-/// All that is read is at most four times as long as the stream. It keeps a word that may be an
-/// address up to its end, but at most 4 KiB. If no links are asked for, it reads the stream of the
-/// other reader.
+/// All that is read is at most four times as long as the stream. It keeps a word that may end in an
+/// address up to its end, but at most 8 KiB and the bytes of one read. If no links are asked for,
+/// it reads the stream of the other reader.
 #[derive(Drop)]
 pub struct Linking<R> {
     inner: R,

@@ -1,11 +1,11 @@
 //! The marks of groups of lines in logs.
 
+use crate::stamp::{Stamp, stamp_of};
 use crate::titles::title_of;
 use memchr::memchr;
 use std::alloc::{AllocError, Global};
 
-// Says how long the time is at most that comes before a mark.
-const LONGEST_TIME: usize = 40;
+const BYTE_ORDER_MARK: &[u8] = b"\xef\xbb\xbf";
 
 /// The beginning or the end of a group of lines.
 #[derive(Drop)]
@@ -25,9 +25,36 @@ pub enum Mark {
 #[derive(Clone, Copy)]
 enum Found<'a> {
     // a group with this title, which is closed at first or not; if it has no title, with this name
-    Begin(&'a [u8], &'a [u8], bool),
-    // the end of one
-    End,
+    Begin(&'a [u8], Name<'a>, bool),
+    // the end of one with this name
+    End(Name<'a>),
+}
+
+/// The name of a group.
+#[derive(Clone, Copy)]
+pub(crate) enum Name<'a> {
+    /// Any of GitHub.
+    Workflow,
+    /// A section of GitLab, with its own.
+    Section(&'a [u8]),
+}
+
+impl<'a> Name<'a> {
+    /// Returns its text.
+    pub fn text(self) -> &'a [u8] {
+        match self {
+            Name::Workflow => b"group",
+            Name::Section(name) => name,
+        }
+    }
+
+    /// Returns whether it is of a section.
+    pub fn is_section(self) -> bool {
+        match self {
+            Name::Workflow => false,
+            Name::Section(_) => true,
+        }
+    }
 }
 
 /// Returns the number of bytes of a line that are a mark, if it begins with one: all but the text
@@ -39,7 +66,16 @@ pub(crate) fn mark_length(line: &[u8]) -> Option<usize> {
 
 /// Returns whether the mark that a line begins with ends a group.
 pub(crate) fn is_end(line: &[u8]) -> bool {
-    matches!(read_mark(line), Some((Found::End, _)))
+    matches!(read_mark(line), Some((Found::End(_), _)))
+}
+
+/// Returns the name of the group that the mark begins or ends that a line begins with.
+pub(crate) fn name_of(line: &[u8]) -> Name<'_> {
+    match read_mark(line) {
+        Some((Found::Begin(_, name, _), _)) => name,
+        Some((Found::End(name), _)) => name,
+        None => Name::Workflow,
+    }
 }
 
 /// Returns the mark that a line begins with. The error is that memory was refused.
@@ -49,7 +85,7 @@ pub(crate) fn mark_of(alloc: Global, line: &[u8]) -> Result<Mark, AllocError> {
     };
     let mut text = title_of(alloc, title)?;
     if text.is_empty() {
-        text = title_of(alloc, name)?;
+        text = title_of(alloc, name.text())?;
     }
     Ok(Mark::Begin {
         title: text,
@@ -59,38 +95,58 @@ pub(crate) fn mark_of(alloc: Global, line: &[u8]) -> Result<Mark, AllocError> {
 
 // Returns the mark that a line begins with, and the rest.
 fn read_mark(line: &[u8]) -> Option<(Found<'_>, &[u8])> {
-    match after_time(line) {
+    let text = after_time(line);
+    match text {
         [b'#', b'#', b'[', rest @ ..] => workflow(rest, b"group]", b"endgroup]"),
         [b':', b':', rest @ ..] => workflow(rest, b"group::", b"endgroup::"),
-        [0x1b, ..] | [b's', ..] => section(line),
+        [0x1b, ..] | [b's', ..] => section(text),
         _ => None,
     }
 }
 
-// Returns the rest after the time that a line begins with, as GitHub writes it: digits, `-`, `T`,
-// `:` and
-// `.`, `Z` and a space.
+// Returns the rest after the time that a line begins with, or the line; after a byte order mark
+// too. Where renditions end before a time, as in a recording with times, they may go on after it.
 fn after_time(line: &[u8]) -> &[u8] {
-    let mut rest = line;
-    while let [first, more @ ..] = rest {
-        match *first {
-            b'0'..=b'9' | b'-' | b'T' | b':' | b'.' if more.len() < line.len() => rest = more,
-            b'Z' => return after_zone(line, more),
-            _ => return line,
-        }
-        if LONGEST_TIME < line.len().saturating_sub(rest.len()) {
-            return line;
-        }
+    let text = after(line, BYTE_ORDER_MARK).unwrap_or(line);
+    let plain = after_renditions(text);
+    match after_stamp(plain) {
+        Some(rest) if plain.len() < text.len() => after_renditions(rest),
+        Some(rest) => rest,
+        None => text,
     }
-    line
 }
 
-// Returns the rest after the space, if the time has a digit first.
-fn after_zone<'a>(line: &'a [u8], rest: &'a [u8]) -> &'a [u8] {
-    match (line, rest) {
-        ([b'0'..=b'9', ..], [b' ', rest @ ..]) => rest,
-        _ => line,
+// Returns the rest after a time and a space.
+fn after_stamp(text: &[u8]) -> Option<&[u8]> {
+    match stamp_of(text) {
+        Stamp::Ends(length) => text.get(length..),
+        Stamp::More | Stamp::No => None,
     }
+}
+
+// Returns the rest after the renditions that come first.
+fn after_renditions(text: &[u8]) -> &[u8] {
+    let mut rest = text;
+    for _ in 0..text.len() {
+        match after_rendition(rest) {
+            Some(more) => rest = more,
+            None => break,
+        }
+    }
+    rest
+}
+
+// Returns the rest after a control sequence of renditions.
+fn after_rendition(text: &[u8]) -> Option<&[u8]> {
+    let body = after(text, b"\x1b[")?;
+    let mut length = 0usize;
+    for byte in body {
+        if !byte.is_ascii_digit() && *byte != b';' && *byte != b':' {
+            break;
+        }
+        length = length.saturating_add(1);
+    }
+    after(body.get(length..)?, b"m")
 }
 
 // Returns the mark of GitHub with this text after its beginning.
@@ -100,10 +156,10 @@ fn workflow<'a>(
     end: &'static [u8],
 ) -> Option<(Found<'a>, &'a [u8])> {
     if let Some(title) = after(text, begin) {
-        return Some((Found::Begin(title, b"group", true), b""));
+        return Some((Found::Begin(title, Name::Workflow, true), b""));
     }
     after(text, end)?;
-    Some((Found::End, b""))
+    Some((Found::End(Name::Workflow), b""))
 }
 
 // Returns the mark of GitLab: `section_start:TIME:NAME`, or `section_end`, maybe with options in
@@ -112,13 +168,14 @@ fn section(line: &[u8]) -> Option<(Found<'_>, &[u8])> {
     let text = after_erasing(line);
     if let Some(rest) = after(text, b"section_start:") {
         let (name, is_closed, rest) = named(rest)?;
+        let name = Name::Section(name);
         if is_section(rest) {
             return Some((Found::Begin(b"", name, is_closed), rest));
         }
         return Some((Found::Begin(rest, name, is_closed), b""));
     }
-    let (_, _, rest) = named(after(text, b"section_end:")?)?;
-    Some((Found::End, without_end(rest)))
+    let (name, _, rest) = named(after(text, b"section_end:")?)?;
+    Some((Found::End(Name::Section(name)), without_end(rest)))
 }
 
 // Returns whether such a mark comes.

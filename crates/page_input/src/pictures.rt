@@ -1,8 +1,8 @@
 //! A log, up to each image in it.
 
 use crate::carried::Carried;
-use crate::commands::{Command, Loss, Unfinished, image_command, sixel_command};
-use crate::files::{PROPRIETARY, Parts, file_command};
+use crate::commands::{Command, Loss, Unfinished, continues_image, image_command, sixel_command};
+use crate::files::{PROPRIETARY, Parts, continues_file, file_command};
 use crate::found::{Found, Kind, found_in, shows};
 use crate::linking::copied;
 use crate::picture::Picture;
@@ -167,6 +167,8 @@ impl<R: Read> Pictures<R> {
                 let is_unfinished = self.give_up(kind);
                 if shows(kind, self.between(from, length), is_unfinished) {
                     self.lose(Loss::Large);
+                } else {
+                    self.lose_unfinished(is_unfinished);
                 }
                 self.plain = length;
             }
@@ -189,16 +191,22 @@ impl<R: Read> Pictures<R> {
         match kind {
             Kind::File => {
                 let mut parts = self.parts.take();
+                let breaks_off = parts.is_some();
                 let text = self.between(from.saturating_add(PROPRIETARY.len()), to);
+                let breaks_off = breaks_off && !continues_file(text);
                 let command = file_command(self.alloc, &mut parts, self.limit, text)?;
                 self.parts = parts;
+                self.lose_unfinished(breaks_off);
                 Ok(command)
             }
             Kind::Image => {
                 let mut unfinished = self.unfinished.take();
+                let breaks_off = unfinished.is_some();
                 let text = self.between(from, to);
                 let command = image_command(self.alloc, &mut unfinished, self.limit, text)?;
+                let breaks_off = breaks_off && !continues_image(text, &command);
                 self.unfinished = unfinished;
+                self.lose_unfinished(breaks_off);
                 Ok(command)
             }
             Kind::Sixels => sixel_command(self.alloc, self.between(from, to)),
@@ -240,6 +248,13 @@ impl<R: Read> Pictures<R> {
         }
     }
 
+    // Counts an image whose last part does not come, if it is so.
+    fn lose_unfinished(&mut self, is_so: bool) {
+        if is_so {
+            self.left_out.unfinished = self.left_out.unfinished.saturating_add(1);
+        }
+    }
+
     // Returns the bytes that were read and not handed out.
     fn rest(&self) -> &[u8] {
         let at = self.at.min(self.kept.len());
@@ -268,9 +283,8 @@ impl<R: Read> Pictures<R> {
     fn end(&mut self) {
         self.has_ended = true;
         for kind in [Kind::File, Kind::Image] {
-            if self.give_up(kind) {
-                self.left_out.unfinished = self.left_out.unfinished.saturating_add(1);
-            }
+            let was_unfinished = self.give_up(kind);
+            self.lose_unfinished(was_unfinished);
         }
     }
 

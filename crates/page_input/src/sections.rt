@@ -1,7 +1,7 @@
 //! A log, group after group.
 
 use crate::linking::copied;
-use crate::marks::{Mark, is_end, mark_length, mark_of};
+use crate::marks::{Mark, Name, is_end, mark_length, mark_of, name_of};
 use memchr::memchr;
 use std::alloc::{AllocError, Global};
 use std::io;
@@ -10,11 +10,26 @@ use std::io::Read;
 // Says how many bytes are read at once.
 const BYTES: usize = 8192;
 
-// Says how many bytes of a line are looked at, to see whether it is a mark.
+// Says how many bytes of a line are looked at, to see whether it is a mark: a line of so many bytes
+// before its end is text.
 const LINE: usize = 4096;
 
 /// Says how many groups may be one in another: a mark that begins one more is text.
 pub const MOST_DEPTH: usize = 16;
+
+// A group that is open.
+#[derive(Drop)]
+struct Group {
+    is_section: bool,
+    name: Vec<u8>,
+}
+
+impl Group {
+    // Returns whether this is its name.
+    fn has(&self, name: Name<'_>) -> bool {
+        self.is_section == name.is_section() && self.name.as_slice() == name.text()
+    }
+}
 
 // The next part.
 #[derive(Clone, Copy)]
@@ -30,10 +45,12 @@ enum Next {
 /// Reads the stream of another reader, up to a line that begins or ends a group: `##[group]NAME`
 /// and `##[endgroup]`, or `::group::NAME` and `::endgroup::`, maybe after a time, as GitHub has
 /// them; or `section_start:TIME:NAME` and `section_end:TIME:NAME`, a carriage return and `ESC [0K`,
-/// as GitLab. [`mark`](Sections::mark) says then which it is, and the next read begins after it.
+/// as GitLab. [`mark`](Sections::mark) says then which it is, and the next read begins after it. An
+/// end is a mark if a group of its name is open, or of GitHub any, and ends those in it too.
 ///
-/// It keeps a line up to its end, but at most 4 KiB and the bytes of one read. If no groups are
-/// asked for, it reads the stream of the other reader.
+/// It keeps a line up to its end, but at most 4 KiB and the bytes of one read, and the names of the
+/// groups that are open. A longer line is no mark. If no groups are asked for, it reads the stream
+/// of the other reader.
 #[derive(Drop)]
 pub struct Sections<R> {
     inner: R,
@@ -45,7 +62,8 @@ pub struct Sections<R> {
     has_ended: bool,
     // says whether a line begins there
     begins_line: bool,
-    depth: usize,
+    // the groups that are open
+    groups: Vec<Group>,
 }
 
 impl<R: Read> Sections<R> {
@@ -60,13 +78,13 @@ impl<R: Read> Sections<R> {
             at: 0,
             has_ended: false,
             begins_line: true,
-            depth: 0,
+            groups: Vec::new(alloc),
         }
     }
 
     /// Returns how many groups are open.
     pub fn depth(&self) -> usize {
-        self.depth
+        self.groups.len()
     }
 
     /// This reader.
@@ -82,20 +100,41 @@ impl<R: Read> Sections<R> {
         }
     }
 
-    /// Takes the mark that comes next, if one does; and whether a line ends with it.
+    /// Takes the mark that comes next, if one does; and whether a line ends with it. An end of a
+    /// group with others in it is taken for each of these first.
     pub fn mark(&mut self) -> io::Result<Option<(Mark, bool)>> {
         let Next::Mark(length) = self.next()? else {
             return Ok(None);
         };
-        let line = self.first(length);
-        let mark = mark_of(self.alloc, line)?;
-        let ends_line = ends_line(line);
-        self.at = self.at.saturating_add(length);
-        self.depth = match &mark {
-            Mark::Begin { .. } => self.depth.saturating_add(1),
-            Mark::End => self.depth.saturating_sub(1),
+        let ends_line = ends_line(self.first(length));
+        let is_last = if is_end(self.first(length)) {
+            self.end_group(length)
+        } else {
+            self.begin_group(length)?;
+            true
         };
-        Ok(Some((mark, ends_line)))
+        let mark = mark_of(self.alloc, self.first(length))?;
+        if is_last {
+            self.at = self.at.saturating_add(length);
+        }
+        Ok(Some((mark, is_last && ends_line)))
+    }
+
+    // Begins the group of the mark of this length that comes next.
+    fn begin_group(&mut self, length: usize) -> Result<(), AllocError> {
+        let name = name_of(self.first(length));
+        let is_section = name.is_section();
+        let name = fallible_alloc::copied(self.alloc, name.text())?;
+        fallible_alloc::push(&mut self.groups, Group { is_section, name })?;
+        Ok(())
+    }
+
+    // Ends the last group that is open; returns whether the mark of this length is of its name.
+    fn end_group(&mut self, length: usize) -> bool {
+        match self.groups.pop() {
+            Some(group) => group.has(name_of(self.first(length))),
+            None => true,
+        }
     }
 
     // Reads a line of text, or as much of it as there is room for.
@@ -154,8 +193,11 @@ impl<R: Read> Sections<R> {
         if line.is_empty() {
             return Next::End;
         }
+        let is_short = end.unwrap_or(bytes.len()) < LINE;
         match mark_length(line) {
-            Some(length) if self.begins_line && self.may_mark(line) => Next::Mark(length),
+            Some(length) if is_short && self.begins_line && self.may_mark(line) => {
+                Next::Mark(length)
+            }
             _ => Next::Text(length, end.is_some()),
         }
     }
@@ -163,10 +205,20 @@ impl<R: Read> Sections<R> {
     // Returns whether the mark of this line may be one here.
     fn may_mark(&self, line: &[u8]) -> bool {
         if is_end(line) {
-            0 < self.depth
+            self.has_open(name_of(line))
         } else {
-            self.depth < MOST_DEPTH
+            self.groups.len() < MOST_DEPTH
         }
+    }
+
+    // Returns whether a group of this name is open.
+    fn has_open(&self, name: Name<'_>) -> bool {
+        for group in &self.groups {
+            if group.has(name) {
+                return true;
+            }
+        }
+        false
     }
 
     // Reads more, after the bytes that were not handed out.

@@ -1,16 +1,16 @@
 //! Times that lines begin with.
 
-// The least number of digits of a number of seconds that is a time by itself.
+// Says what is the least number of digits of a number of seconds that is a time by itself.
 const EPOCH: usize = 10;
 
 const MONTHS: &[&str] = &[
     "Jan", "Feb", "Mar", "Apr", "May", "Jun", "Jul", "Aug", "Sep", "Oct", "Nov", "Dec",
 ];
 
-// The most digits of a number in a time.
+// Says how many digits a number has at most in a time.
 const MOST_DIGITS: usize = 12;
 
-/// Whether a text begins with a time.
+/// Says whether a text begins with a time.
 #[derive(Clone, Copy)]
 pub enum Stamp {
     /// It does: with so many bytes, the last of which is a space.
@@ -21,7 +21,7 @@ pub enum Stamp {
     No,
 }
 
-/// Whether a text begins with a time and a space, as it is written by `ts` of moreutils,
+/// Returns whether a text begins with a time and a space, as it is written by `ts` of moreutils,
 /// journalctl, dmesg and the tools that prefix logs of containers and of CI: `Nov 29 10:18:01`,
 /// `10:18:01.250`, `2026-11-29T10:18:01Z`, `1764411481.250000`, each in square brackets or not, and
 /// in these any number of seconds, as `[    1.500000]`.
@@ -45,7 +45,7 @@ pub fn stamp_of(text: &[u8]) -> Stamp {
 struct Cursor<'a> {
     text: &'a [u8],
     at: usize,
-    // whether it ended when a byte was asked for
+    // says whether it ended when a byte was asked for
     is_short: bool,
 }
 
@@ -61,7 +61,7 @@ impl<'a> Cursor<'a> {
         self.takes_moment(1) && self.takes(b']')
     }
 
-    // A date and a time, or a time, or so many digits of seconds at least.
+    // Takes a date and a time, or a time, or so many digits of seconds at least.
     fn takes_moment(&mut self, seconds: usize) -> bool {
         if self.takes_month() {
             return self.takes_day() && self.takes_clock();
@@ -154,7 +154,7 @@ impl<'a> Cursor<'a> {
         comes
     }
 
-    // The byte that comes next; a line feed if none does.
+    // Returns the byte that comes next; a line feed if none does.
     fn next(&mut self) -> u8 {
         match self.text.get(self.at) {
             Some(byte) => *byte,
@@ -170,7 +170,7 @@ impl<'a> Cursor<'a> {
     }
 }
 
-// Whether an upper-case letter comes first, or nothing.
+// Returns whether an upper-case letter comes first, or nothing.
 fn is_letter(text: &[u8]) -> bool {
     match text.first() {
         Some(byte) => byte.is_ascii_uppercase(),
