@@ -12,6 +12,7 @@ pub use fault::FileFault;
 pub use links::are_one;
 use links::{is_descriptor, led_to};
 pub use output::Output;
+use std::alloc::AllocError;
 use std::fs::{Files, Metadata, OpenFile, OpenOptions, hard_link, metadata, remove_file, rename};
 use std::io;
 use std::io::ErrorKind;
@@ -112,7 +113,7 @@ impl<R: Files + AllocGlobal> NewFile<R> {
 
     // Gives the file of its place a second name, that one with this suffix, and returns it.
     fn keep_old<'a>(&self, rt: &R, suffix: &'a str) -> Result<String, FileFault<'a>> {
-        let kept = format!(in rt.alloc(); "{}{suffix}", self.place)?;
+        let kept = name_kept(rt, self.place.as_str(), suffix)?;
         match hard_link(rt, self.place.as_str(), kept.as_str()) {
             Ok(()) => Ok(kept),
             Err(error) if error.kind() == ErrorKind::AlreadyExists => {
@@ -126,6 +127,28 @@ impl<R: Files + AllocGlobal> NewFile<R> {
     fn give_up(self, rt: &R) {
         let _ = remove_file(rt, self.name.as_str());
     }
+}
+
+/// Returns whether [`NewFile::end`] with this suffix, which is not empty, gives the old file of the
+/// first name the second one.
+pub fn is_kept_as<R: Files + AllocGlobal>(rt: &R, name: &str, suffix: &str, kept: &str) -> bool {
+    match led_to(rt, name) {
+        Ok(place) => is_name_kept(rt, place.as_str(), suffix, kept),
+        Err(_) => false,
+    }
+}
+
+// Does the same for the name of a file that is no link.
+fn is_name_kept<R: Files + AllocGlobal>(rt: &R, place: &str, suffix: &str, kept: &str) -> bool {
+    match name_kept(rt, place, suffix) {
+        Ok(name) => are_one(rt, name.as_str(), kept),
+        Err(_) => false,
+    }
+}
+
+// Returns the name under which the old file of this place is kept.
+fn name_kept<R: AllocGlobal>(rt: &R, place: &str, suffix: &str) -> Result<String, AllocError> {
+    format!(in rt.alloc(); "{place}{suffix}")
 }
 
 // Returns a new file beside this place, with these permissions. Its number is the first that is

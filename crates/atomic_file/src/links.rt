@@ -1,6 +1,6 @@
 //! The targets of symbolic links.
 
-use std::fs::{Files, metadata, read_link, symlink_metadata};
+use std::fs::{Files, Metadata, metadata, read_link, symlink_metadata};
 use std::io;
 use std::io::ErrorKind;
 use std::os::unix::fs::MetadataExt;
@@ -34,14 +34,50 @@ pub fn is_descriptor(name: &str) -> bool {
     name.starts_with("/dev/fd/") || name.starts_with("/proc/self/fd/")
 }
 
-/// Returns whether both are names of one regular file, or the same name of none yet.
-pub fn are_one<R: Files>(files: &R, one: &str, other: &str) -> bool {
-    match (metadata(files, one), metadata(files, other)) {
-        (Ok(one), Ok(other)) => {
-            one.is_file() && one.dev() == other.dev() && one.ino() == other.ino()
-        }
-        (Err(_), Err(_)) => one == other,
+/// Returns whether both are names of one regular file, or of one that is not there yet: the names
+/// that links lead to are in one folder, and have the same last part.
+pub fn are_one<R: Files + AllocGlobal>(rt: &R, one: &str, other: &str) -> bool {
+    match (metadata(rt, one), metadata(rt, other)) {
+        (Ok(one), Ok(other)) => one.is_file() && is_same(&one, &other),
+        (Err(_), Err(_)) => one == other || are_one_place(rt, one, other),
         (Ok(_), Err(_)) | (Err(_), Ok(_)) => false,
+    }
+}
+
+// Returns whether these are of one file.
+fn is_same(one: &Metadata, other: &Metadata) -> bool {
+    one.dev() == other.dev() && one.ino() == other.ino()
+}
+
+// Returns whether both names lead to one place in a folder.
+fn are_one_place<R: Files + AllocGlobal>(rt: &R, one: &str, other: &str) -> bool {
+    match (led_to(rt, one), led_to(rt, other)) {
+        (Ok(one), Ok(other)) => are_beside(rt, one.as_str(), other.as_str()),
+        _ => false,
+    }
+}
+
+// Returns whether both names have the same last part, and their folders are one.
+fn are_beside<R: Files>(files: &R, one: &str, other: &str) -> bool {
+    let (folder, last) = parts(one);
+    let (other_folder, other_last) = parts(other);
+    last == other_last && are_one_folder(files, folder, other_folder)
+}
+
+// Returns whether both are names of one folder.
+fn are_one_folder<R: Files>(files: &R, one: &str, other: &str) -> bool {
+    match (metadata(files, one), metadata(files, other)) {
+        (Ok(one), Ok(other)) => is_same(&one, &other),
+        _ => false,
+    }
+}
+
+// Returns the folder that a name is in, and its last part.
+fn parts(name: &str) -> (&str, &str) {
+    match name.rsplit_once('/') {
+        Some(("", last)) => ("/", last),
+        Some(parts) => parts,
+        None => (".", name),
     }
 }
 

@@ -380,10 +380,32 @@ impl<'a> Asked<'a> {
             Some(_) if self.settings.is_recording() => Some("--collapse is not for recordings"),
             None if self.settings.columns.is_some() => Some("--columns wants --collapse"),
             _ => match self.settings.recorded {
-                Recorded::Typescript => self.timing_clash(files),
-                _ if self.timing_to.is_some() => Some("--timing-to wants --timing"),
-                _ => None,
+                Recorded::Typescript => self.encoding_clash().or(self.timing_clash(files)),
+                Recorded::Frames => self.encoding_clash().or(self.untimed_clash()),
+                _ => self.untimed_clash(),
             },
+        }
+    }
+
+    // The same for the bytes of a recording, which are read as UTF-16 nowhere.
+    fn encoding_clash(&self) -> Option<&'static str> {
+        match self.order {
+            Some(_) => Some("--encoding utf-16 is not for --ttyrec or --timing"),
+            None => None,
+        }
+    }
+
+    // The same for what is no typescript. Its option is the last one of its kind.
+    fn untimed_clash(&self) -> Option<&'static str> {
+        match (self.timing_to, self.timing, self.settings.recorded) {
+            (None, _, _) => None,
+            (_, Some(_), Recorded::Cast) => Some(
+                "--timing-to wants --timing, but --cast follows it",
+            ),
+            (_, Some(_), Recorded::Frames) => {
+                Some("--timing-to wants --timing, but --ttyrec follows it")
+            }
+            _ => Some("--timing-to wants --timing"),
         }
     }
 

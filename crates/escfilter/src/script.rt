@@ -11,8 +11,8 @@ use esc_normal::Watched;
 use esc_sanitize::Auditor;
 use memchr::memchr;
 use std::alloc::Global;
+use std::io;
 use std::io::Write;
-use std::str;
 
 // The microseconds of a second.
 const SECOND: u64 = 1_000_000;
@@ -21,8 +21,8 @@ const SECOND: u64 = 1_000_000;
 const MOST: usize = 4096;
 
 /// A filter of a typescript of script(1), which comes in chunks, by its timing. It makes a new
-/// typescript and a new timing in the form of the old one. The first line stays if it is text. The
-/// words that the user typed are left out, and so are the bytes that the timing does not count.
+/// typescript and a new timing in the form of the old one. The first line stays, escaped. The words
+/// that the user typed are left out, and so are the bytes that the timing does not count.
 #[derive(Drop)]
 pub struct Script<'a> {
     feeding: TextFilter<'a>,
@@ -177,13 +177,34 @@ fn grow(first: &mut Vec<u8>, bytes: &[u8]) -> Result<(), Fault> {
     }
 }
 
-// Writes the first line of a typescript, with its controls escaped.
+// Writes the first line of a typescript, with its controls and bytes that are no UTF-8 escaped.
 fn write_first<W: Write>(line: &[u8], writer: &mut Watched<W>) -> Result<(), Fault> {
-    let text = str::from_utf8(line).unwrap_or("Script started");
-    match writeln!(writer, "{}", Shown(text)) {
+    match write_escaped(line, writer) {
         Ok(()) => Ok(()),
         Err(_) => Err(Fault::Stream(FilterError::Write)),
     }
+}
+
+// Writes a line, with its controls and bytes that are no UTF-8 escaped.
+fn write_escaped<W: Write>(line: &[u8], writer: &mut Watched<W>) -> io::Result<()> {
+    for chunk in line.utf8_chunks() {
+        write_text(chunk.valid(), writer)?;
+        for byte in chunk.invalid() {
+            write!(writer, "\\x{byte:02x}")?;
+        }
+    }
+    writer.write_all(b"\n")
+}
+
+// Writes text, with its controls escaped.
+fn write_text<W: Write>(text: &str, writer: &mut Watched<W>) -> io::Result<()> {
+    let mut is_first = true;
+    for part in text.split('\0') {
+        let mark = if is_first { "" } else { "\\u{0}" };
+        write!(writer, "{mark}{}", Shown(part))?;
+        is_first = false;
+    }
+    Ok(())
 }
 
 // The beginning of an entry of output in the form of this timing: a letter in the advanced form.

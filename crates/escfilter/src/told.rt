@@ -7,7 +7,7 @@ use crate::events::Events;
 use crate::failing::{Failing, Gate};
 use crate::options::{Options, Target, Task};
 use crate::{NEW, PROGRAM};
-use atomic_file::{Output, Stream, are_one};
+use atomic_file::{Output, Stream, are_one, is_kept_as};
 use command_line::{DONE, FAULT, unwritable};
 use output_file::is_output;
 use std::fs::metadata;
@@ -173,9 +173,7 @@ fn is_taken(rt: &HostRuntime, task: &Task<'_>, name: &str) -> bool {
             return true;
         }
     }
-    is_named(rt, task.timing, name)
-        || is_twice(rt, task, name)
-        || is_output_of(rt, task.target, name)
+    is_named(rt, task.timing, name) || is_twice(rt, task, name) || is_output_of(rt, task, name)
 }
 
 // Whether the first name, if there is one, names the same file as the second.
@@ -194,13 +192,24 @@ fn is_twice(rt: &HostRuntime, task: &Task<'_>, name: &str) -> bool {
     (report && events) || (report && timing) || (events && timing)
 }
 
-// Whether the output goes to the file of this name.
-fn is_output_of(rt: &HostRuntime, target: Target<'_>, name: &str) -> bool {
-    match target {
+// Whether the output goes to the file of this name, or what was in its place is kept there.
+fn is_output_of(rt: &HostRuntime, task: &Task<'_>, name: &str) -> bool {
+    match task.target {
         Target::Output => is_output(rt, metadata(rt, name)),
         Target::File(output) => are_one(rt, output, name),
-        Target::InPlace(_) => false,
+        Target::InPlace("") => false,
+        Target::InPlace(suffix) => is_kept(rt, &task.files, suffix, name),
     }
+}
+
+// Whether one of these files is kept under this name once another, by its suffix, takes its place.
+fn is_kept(rt: &HostRuntime, files: &[&str], suffix: &str, name: &str) -> bool {
+    for file in files {
+        if is_kept_as(rt, *file, suffix, name) {
+            return true;
+        }
+    }
+    false
 }
 
 // Puts a file in its place if there is one. It returns the status, or 1 after an error. Standard
