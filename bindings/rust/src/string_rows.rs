@@ -3,7 +3,7 @@
 //! does. `tools/functions-page` makes this file from the table of `crates/string_commands/src`.
 use crate::control_string::{Begin, Row, StringKind};
 
-pub(crate) static ROWS: [Row; 210] = [
+pub(crate) static ROWS: [Row; 215] = [
     Row {
         kind: StringKind::Osc,
         key: 0,
@@ -49,16 +49,51 @@ pub(crate) static ROWS: [Row; 210] = [
     Row {
         kind: StringKind::Osc,
         key: 6,
-        begin: Begin::Part("1"),
-        name: "OSC 6;1",
-        words: "iTerm2 tab colour",
+        begin: Begin::Part("1;bg"),
+        name: "OSC 6;1;bg",
+        words: "iTerm2 tab colour, background",
+    },
+    Row {
+        kind: StringKind::Osc,
+        key: 6,
+        begin: Begin::Part("1;fg"),
+        name: "OSC 6;1;fg",
+        words: "iTerm2 tab colour, foreground",
     },
     Row {
         kind: StringKind::Osc,
         key: 6,
         begin: Begin::Part("0"),
         name: "OSC 6;0",
-        words: "switch a special colour",
+        words: "switch special colour bold",
+    },
+    Row {
+        kind: StringKind::Osc,
+        key: 6,
+        begin: Begin::Part("1"),
+        name: "OSC 6;1",
+        words: "switch special colour underline",
+    },
+    Row {
+        kind: StringKind::Osc,
+        key: 6,
+        begin: Begin::Part("2"),
+        name: "OSC 6;2",
+        words: "switch special colour blink",
+    },
+    Row {
+        kind: StringKind::Osc,
+        key: 6,
+        begin: Begin::Part("3"),
+        name: "OSC 6;3",
+        words: "switch special colour reverse",
+    },
+    Row {
+        kind: StringKind::Osc,
+        key: 6,
+        begin: Begin::Part("4"),
+        name: "OSC 6;4",
+        words: "switch special colour italic",
     },
     Row {
         kind: StringKind::Osc,
@@ -373,7 +408,7 @@ pub(crate) static ROWS: [Row; 210] = [
         key: 61,
         begin: Begin::Anything,
         name: "OSC 61",
-        words: "features disallowed without",
+        words: "features disallowed without a permission, and ask for them",
     },
     Row {
         kind: StringKind::Osc,

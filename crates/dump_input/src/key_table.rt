@@ -6,7 +6,8 @@
 //! capabilities of terminfo(5) in ncurses's database. If terminals differ the commonest key comes
 //! first, and a terminal's name after its own.
 //!
-//! A row is a line: a letter or a number, a space, and the key.
+//! A row is a line: a letter or a number, a space, and the key. A `,` at the end of a key comes
+//! before modifiers alone.
 
 // Keys of a number before `~`; of rxvt also before `^`, `$` and `@`.
 static NUMBERED: &str = "\

@@ -29,7 +29,7 @@ const RELEASED: u64 = 3;
 pub fn add_sent(sent: Sent, to: &mut Phrase) {
     match sent {
         Sent::Key(name, modifiers) => {
-            to.begin("key", "", name);
+            to.begin("key", "", name_before(name, modifiers));
             add_modifiers(modifiers, to);
         }
         Sent::Typed(c, modifiers) => {
@@ -44,6 +44,14 @@ pub fn add_sent(sent: Sent, to: &mut Phrase) {
         Sent::Focus(false) => to.begin("focus", "", "lost"),
         Sent::Paste(true) => to.begin("paste", "", "begins"),
         Sent::Paste(false) => to.begin("paste", "", "ends"),
+    }
+}
+
+// Returns the name of a key as it comes before these modifiers.
+fn name_before(name: &'static str, modifiers: Modifiers) -> &'static str {
+    match name.strip_suffix(',') {
+        Some(alone) if modifiers == 0 => alone,
+        _ => name,
     }
 }
 

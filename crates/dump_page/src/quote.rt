@@ -69,7 +69,7 @@ impl Quote {
     }
 
     /// Adds words as the characters of a string of JSON (RFC 8259, 7): `"` and `\` after a `\`, and
-    /// characters that are not shown as U+FFFD.
+    /// characters that are not shown by their numbers.
     #[tactic(auto, using(crate::proofs::Quoting::no_quote))]
     pub(crate) fn add_string(&mut self, words: &str) {
         if self.is_refused {

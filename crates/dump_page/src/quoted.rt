@@ -98,7 +98,8 @@ pub fn push_between(quoted: &str, to: &mut Text) -> Result<(), AllocError>
     to.push('"')
 }
 
-/// Appends a text as characters that are shown: each that is not as U+FFFD.
+/// Appends a text as a string of JSON (RFC 8259, 7) has it: a character that is not shown is
+/// escaped.
 pub fn push_string(text: &str, to: &mut Text) -> Result<(), AllocError>
     ensures { OnOk result (QuotesSome to.old to.new) }
 {
@@ -147,16 +148,48 @@ fn push_run(text: &str, to: &mut Text) -> Result<(), AllocError>
         return to.push_str(text);
     }
     for c in text.chars() {
-        push_shown(shown_for(c), to)?;
+        push_escaped(c, to)?;
     }
     Ok(())
 }
 
-// Returns a character that is shown: this one, or U+FFFD for one that is not.
-fn shown_for(c: char) -> char
-    ensures { is_shown result ≡ true }
+// Appends a character in this way.
+fn push_escaped(c: char, to: &mut Text) -> Result<(), AllocError>
+    ensures { OnOk result (QuotesSome to.old to.new) }
 {
-    if is_shown(c) { c } else { '\u{fffd}' }
+    if is_shown(c) {
+        return push_shown(c, to);
+    }
+    push_units(c, to)
+}
+
+// Appends a character as the units that it has in UTF-16.
+fn push_units(c: char, to: &mut Text) -> Result<(), AllocError>
+    ensures { OnOk result (QuotesSome to.old to.new) }
+{
+    let mut units = [0u16; 2];
+    for unit in c.encode_utf16(&mut units) {
+        push_unit(*unit, to)?;
+    }
+    Ok(())
+}
+
+// Appends a unit: `\u` and four hexadecimal digits.
+fn push_unit(unit: u16, to: &mut Text) -> Result<(), AllocError>
+    ensures { OnOk result (QuotesSome to.old to.new) }
+{
+    let [high, low] = unit.to_be_bytes();
+    push_marked('u', to)?;
+    push_digits(high, to)?;
+    push_digits(low, to)
+}
+
+// Appends two hexadecimal digits.
+fn push_digits(byte: u8, to: &mut Text) -> Result<(), AllocError>
+    ensures { OnOk result (QuotesSome to.old to.new) }
+{
+    push_shown(digit(byte / 16), to)?;
+    push_shown(digit(byte % 16), to)
 }
 
 // Appends a character that is shown.

@@ -96,27 +96,23 @@ const WINDOW: &str = "\
 20 ask for icon label
 21 ask for title";
 
-// The functions whose first number is a choice, and their choices.
-static CHOICES: [(ControlFunction, &str); 10] = [
-    (ControlFunction::ED, IN_DISPLAY),
-    (ControlFunction::DECSED, IN_DISPLAY),
-    (ControlFunction::EL, IN_LINE),
-    (ControlFunction::DECSEL, IN_LINE),
-    (ControlFunction::TBC, TABS),
-    (ControlFunction::DSR, REPORTS),
-    (ControlFunction::DECDSR, PRIVATE_REPORTS),
-    (ControlFunction::DECSCUSR, CURSORS),
-    (ControlFunction::DECSCA, PROTECTION),
-    (ControlFunction::XTWINOPS, WINDOW),
-];
+// Returns the choices of a function whose first number is one; nothing of any other.
+fn choices_of(function: ControlFunction) -> &'static str {
+    match function {
+        ControlFunction::ED | ControlFunction::DECSED => IN_DISPLAY,
+        ControlFunction::EL | ControlFunction::DECSEL => IN_LINE,
+        ControlFunction::TBC => TABS,
+        ControlFunction::DSR => REPORTS,
+        ControlFunction::DECDSR => PRIVATE_REPORTS,
+        ControlFunction::DECSCUSR => CURSORS,
+        ControlFunction::DECSCA => PROTECTION,
+        ControlFunction::XTWINOPS => WINDOW,
+        _ => "",
+    }
+}
 
 /// Returns the words for the choice of this number, if it is the first of a sequence of this
 /// function and has words.
 pub fn chosen_words(function: ControlFunction, number: i64) -> &'static str {
-    for (chosen, words) in &CHOICES {
-        if *chosen == function {
-            return words_of(*words, number, "");
-        }
-    }
-    ""
+    words_of(choices_of(function), number, "")
 }

@@ -206,69 +206,32 @@ fn add_one(params: &[CsiParam], to: &mut Phrase) {
     add_entries(after_first(params, 1), to);
 }
 
-// A function that does one thing or another: its words if the number at a place is left out, and if
-// it is given. If they are empty, its parameters are words enough.
-#[derive(Clone, Copy)]
-struct Said(ControlFunction, usize, &'static str, &'static str);
-
-static SAID: [Said; 12] = [
-    Said(ControlFunction::SGR, 0, "", ""),
-    Said(ControlFunction::DECSET, 0, "", ""),
-    Said(ControlFunction::DECRST, 0, "", ""),
-    Said(ControlFunction::MOUSE, 0, "", ""),
-    Said(ControlFunction::MOUSEUP, 0, "", ""),
-    Said(ControlFunction::KITTYKEY, 0, "", ""),
-    Said(
-        ControlFunction::DA1,
-        0,
-        "ask for device attributes",
-        "ask for device attributes",
-    ),
-    Said(
-        ControlFunction::DA1R,
-        0,
-        "report of the device attributes",
-        "report of the device attributes",
-    ),
-    Said(
-        ControlFunction::DA2,
-        1,
-        "ask for secondary device attributes",
-        "report of the secondary device attributes",
-    ),
-    Said(
-        ControlFunction::DA3,
-        0,
-        "ask for tertiary device attributes",
-        "ask for tertiary device attributes",
-    ),
-    Said(
-        ControlFunction::DECREQTPARM,
-        1,
-        "ask for terminal parameters",
-        "report of terminal parameters",
-    ),
-    Said(
-        ControlFunction::KITTYQUERY,
-        0,
-        "ask for flags of the keyboard",
-        "flags of the keyboard are",
-    ),
-];
-
 // Returns the description of the function in words: that of its row, or for a function that asks or
-// reports, by its parameters.
+// reports, by its parameters. If it is empty, the parameters are words enough.
 fn function_words(function: ControlFunction, params: &[CsiParam]) -> &'static str {
-    for Said(said, place, asked, reported) in &SAID {
-        if *said == function {
-            return if number_at(params, *place).is_some() {
-                *reported
-            } else {
-                *asked
-            };
+    match function {
+        ControlFunction::SGR
+        | ControlFunction::DECSET
+        | ControlFunction::DECRST
+        | ControlFunction::MOUSE
+        | ControlFunction::MOUSEUP
+        | ControlFunction::KITTYKEY => "",
+        ControlFunction::DA1 => "ask for device attributes",
+        ControlFunction::DA1R => "report of the device attributes",
+        ControlFunction::DA2 if number_at(params, 1).is_some() => {
+            "report of the secondary device attributes"
         }
+        ControlFunction::DA2 => "ask for secondary device attributes",
+        ControlFunction::DA3 => "ask for tertiary device attributes",
+        ControlFunction::DECREQTPARM if number_at(params, 1).is_some() => {
+            "report of terminal parameters"
+        }
+        ControlFunction::DECREQTPARM => "ask for terminal parameters",
+        ControlFunction::KITTYQUERY if number_at(params, 0).is_some() =>
+            "flags of the keyboard are",
+        ControlFunction::KITTYQUERY => "ask for flags of the keyboard",
+        _ => function.words(),
     }
-    function.words()
 }
 
 // Adds the parameters of a function, each by its kind, with those that are left out if the standard

@@ -2,11 +2,20 @@
 
 use crate::values::cut;
 use dump_page::Phrase;
+use std::alloc::AllocError;
 
 /// Adds the bytes of a text in base64 (RFC 4648, 4), between quotes. A byte that is no digit of
 /// base64 is passed over, as terminals do, and so is the rest of the last digits.
 pub fn add_base64(text: &[u8], to: &mut Phrase) {
     let mut bytes = Vec::new(to.alloc());
+    match push_base64(text, &mut bytes) {
+        Ok(()) => to.add_quoted(" ", &bytes),
+        Err(_) => to.refuse(),
+    }
+}
+
+// Adds the bytes of a text in base64. The error is that memory was refused.
+fn push_base64(text: &[u8], bytes: &mut Vec<u8>) -> Result<(), AllocError> {
     let mut bits: u32 = 0;
     let mut place: u8 = 0;
     for byte in text {
@@ -17,12 +26,12 @@ pub fn add_base64(text: &[u8], to: &mut Phrase) {
             } else {
                 place.saturating_add(1)
             };
-            if place != 1 && bytes.push(byte_of(bits, place)).is_err() {
-                return to.refuse();
+            if place != 1 {
+                bytes.push(byte_of(bits, place))?;
             }
         }
     }
-    to.add_quoted(" ", &bytes);
+    Ok(())
 }
 
 // Returns the number of a digit of base64.
@@ -51,31 +60,30 @@ fn byte_of(bits: u32, place: u8) -> u8 {
 /// Adds the bytes of a text in hexadecimal digits, between quotes; any other text as it is.
 pub fn add_hex_text(text: &[u8], to: &mut Phrase) {
     let mut bytes = Vec::new(to.alloc());
+    match push_hex(text, &mut bytes) {
+        Ok(true) => to.add_quoted(" ", &bytes),
+        Ok(false) => to.add_quoted(" ", text),
+        Err(_) => to.refuse(),
+    }
+}
+
+// Adds the bytes of a text in hexadecimal digits, and returns whether it is one. The error is that
+// memory was refused.
+fn push_hex(text: &[u8], bytes: &mut Vec<u8>) -> Result<bool, AllocError> {
     let mut first: Option<u8> = None;
-    let mut is_hex = true;
     for byte in text {
         let Some(digit) = hex_digit_of(*byte) else {
-            is_hex = false;
-            break;
+            return Ok(false);
         };
         first = match first {
             Some(high) => {
-                if bytes
-                    .push(high.wrapping_mul(16).wrapping_add(digit))
-                    .is_err()
-                {
-                    return to.refuse();
-                }
+                bytes.push(high.wrapping_mul(16).wrapping_add(digit))?;
                 None
             }
             None => Some(digit),
         };
     }
-    if is_hex && first.is_none() {
-        to.add_quoted(" ", &bytes);
-    } else {
-        to.add_quoted(" ", text);
-    }
+    Ok(first.is_none())
 }
 
 // Returns the number of a hexadecimal digit.

@@ -117,7 +117,15 @@ fn add_sixel(parts: Parts<'_>, to: &mut Phrase) {
 // Returns the width and the height of a sixel image. The error is that memory was refused.
 fn dimensions_of(parts: Parts<'_>, to: &Phrase) -> Result<(u32, u32), AllocError> {
     let mut numbers = Vec::new(to.alloc());
-    let mut rest = Some(parts.params);
+    match push_numbers(parts.params, &mut numbers) {
+        Ok(()) => drawn(parts.data, &mut SixelBuilder::new(to.alloc(), &numbers)),
+        Err(error) => Err(error),
+    }
+}
+
+// Adds the numbers of parameters; 0, if one has none.
+fn push_numbers(params: &[u8], numbers: &mut Vec<i64>) -> Result<(), AllocError> {
+    let mut rest = Some(params);
     for _ in 0..u64::MAX {
         let Some(text) = rest else {
             break;
@@ -126,8 +134,12 @@ fn dimensions_of(parts: Parts<'_>, to: &Phrase) -> Result<(u32, u32), AllocError
         numbers.push(number_in(number).unwrap_or(0))?;
         rest = more;
     }
-    let mut image = SixelBuilder::new(to.alloc(), &numbers);
-    image.push_run(parts.data)?;
+    Ok(())
+}
+
+// Draws an image of these data, and returns its width and its height.
+fn drawn(data: &[u8], image: &mut SixelBuilder) -> Result<(u32, u32), AllocError> {
+    image.push_run(data)?;
     image.finish()?;
     Ok(image.sixel.dimensions())
 }

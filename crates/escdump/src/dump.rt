@@ -172,7 +172,7 @@ impl<'n> Dump<'n> {
     }
 
     // Takes the cursor positions of the VT52 that come first, and text between them. Bytes that may
-    // become one wait for more.
+    // become one wait for more, and one that the stream cuts is left unfinished.
     fn take_addresses<'b>(&mut self, bytes: &'b [u8]) -> &'b [u8] {
         let mut rest = bytes;
         for _ in 0..u64::MAX {
@@ -182,6 +182,10 @@ impl<'n> Dump<'n> {
                     self.keep(rest);
                     self.is_waiting = true;
                     break;
+                }
+                Address::Cut => {
+                    self.add_part(SegmentKind::Escape, rest);
+                    return &[];
                 }
                 Address::Whole => {
                     let (first, after) = rest.split_at(rest.len().min(4));

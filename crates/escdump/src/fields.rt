@@ -13,7 +13,7 @@ use crate::values::{
 use dump_page::Phrase;
 
 // The kind of a field.
-#[derive(Clone, Copy, PartialEq, Eq)]
+#[derive(Clone, Copy)]
 enum Kind {
     // A number; any other text is quoted.
     Number,

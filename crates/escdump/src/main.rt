@@ -25,6 +25,7 @@ mod kind;
 mod line;
 mod mode_words;
 mod named;
+mod names;
 mod notation;
 mod objects;
 mod options;
@@ -171,15 +172,16 @@ fn dump_task(rt: &HostRuntime, options: Options<'_>, task: &Task<'_>) -> u8 {
     };
     let mut whole = Whole::new(rt.alloc(), rt.stderr());
     let status = work_through(rt, PROGRAM, &[name], &mut whole, &mut rt.stderr());
-    if status != DONE {
-        return status;
+    if status == DONE {
+        dump_all(
+            rt,
+            timed(options, whole.bytes()),
+            task.explained,
+            &task.files,
+        )
+    } else {
+        status
     }
-    dump_all(
-        rt,
-        timed(options, whole.bytes()),
-        task.explained,
-        &task.files,
-    )
 }
 
 // Returns the options with this timing.

@@ -6,151 +6,55 @@ use control_functions::{ControlFunction, Mode, PrivateMode};
 use dump_page::Phrase;
 use esc_values::CsiParam;
 
-// The effects of private modes that people meet, if one is set, and if it is reset, the commonest
-// first (xterm's list, "DEC Private Mode Set"; the VT510's manual).
-#[derive(Clone, Copy)]
-struct Phrases(i64, &'static str, &'static str);
-
-static PHRASES: [Phrases; 46] = [
-    Phrases(25, "show the cursor", "hide the cursor"),
-    Phrases(
-        2004,
-        "bracket what is pasted",
-        "do not bracket what is pasted",
-    ),
-    Phrases(1, "application cursor keys", "normal cursor keys"),
-    Phrases(
-        7,
-        "wrap at the last column",
-        "do not wrap at the last column",
-    ),
-    Phrases(
-        1049,
-        "save the cursor, enter a clear alternate screen",
-        "leave the alternate screen, restore the cursor",
-    ),
-    Phrases(12, "blink the cursor", "do not blink the cursor"),
-    Phrases(
-        1006,
-        "report the mouse as SGR",
-        "report the mouse in single bytes",
-    ),
-    Phrases(1000, "report mouse buttons", "do not report the mouse"),
-    Phrases(
-        1002,
-        "report mouse buttons and drags",
-        "do not report the mouse",
-    ),
-    Phrases(
-        2026,
-        "begin a synchronized update",
-        "end a synchronized update",
-    ),
-    Phrases(2, "ANSI mode", "VT52 mode"),
-    Phrases(3, "132 columns", "80 columns"),
-    Phrases(4, "smooth scroll", "jump scroll"),
-    Phrases(5, "reverse video", "normal video"),
-    Phrases(
-        6,
-        "count lines from the top margin",
-        "count lines from the top of the screen",
-    ),
-    Phrases(
-        8,
-        "repeat keys that are held",
-        "do not repeat keys that are held",
-    ),
-    Phrases(9, "report mouse presses", "do not report the mouse"),
-    Phrases(33, "steady cursor", "blinking cursor"),
-    Phrases(34, "right to left", "left to right"),
-    Phrases(
-        40,
-        "permit 80 and 132 columns",
-        "keep the number of columns",
-    ),
-    Phrases(45, "wrap backwards too", "do not wrap backwards"),
-    Phrases(
-        47,
-        "enter the alternate screen",
-        "leave the alternate screen",
-    ),
-    Phrases(59, "kanji and katakana", "no kanji and katakana"),
-    Phrases(66, "application keypad", "numeric keypad"),
-    Phrases(67, "backarrow key sends BS", "backarrow key sends DEL"),
-    Phrases(
-        69,
-        "permit left and right margins",
-        "no left and right margins",
-    ),
-    Phrases(80, "show sixels without scrolling", "scroll with sixels"),
-    Phrases(1001, "report mouse highlights", "do not report the mouse"),
-    Phrases(
-        1003,
-        "report mouse buttons and motion",
-        "do not report the mouse",
-    ),
-    Phrases(1004, "report focus", "do not report focus"),
-    Phrases(
-        1005,
-        "report the mouse in UTF-8",
-        "report the mouse in single bytes",
-    ),
-    Phrases(1007, "the wheel sends arrow keys", "the wheel scrolls"),
-    Phrases(
-        1015,
-        "report the mouse as urxvt",
-        "report the mouse in single bytes",
-    ),
-    Phrases(
-        1016,
-        "report the mouse as SGR in pixels",
-        "report the mouse in single bytes",
-    ),
-    Phrases(
-        1021,
-        "bold and blinking characters in high intensity",
-        "bold and blinking characters in normal intensity",
-    ),
-    Phrases(
-        1034,
-        "Meta sets the eighth bit",
-        "Meta does not set the eighth bit",
-    ),
-    Phrases(1036, "Meta sends ESC", "Meta does not send ESC"),
-    Phrases(1039, "Alt sends ESC", "Alt does not send ESC"),
-    Phrases(
-        1047,
-        "enter the alternate screen",
-        "clear and leave the alternate screen",
-    ),
-    Phrases(1048, "save the cursor", "restore the cursor"),
-    Phrases(
-        1337,
-        "report keys of iTerm2",
-        "do not report keys of iTerm2",
-    ),
-    Phrases(
-        2027,
-        "join grapheme clusters",
-        "do not join grapheme clusters",
-    ),
-    Phrases(
-        2030,
-        "report the selection by cells",
-        "do not report the selection by cells",
-    ),
-    Phrases(
-        2031,
-        "report the colour scheme",
-        "do not report the colour scheme",
-    ),
-    Phrases(2048, "report the size", "do not report the size"),
-    Phrases(
-        9001,
-        "report keys as win32 input",
-        "report keys as characters",
-    ),
-];
+// The effects of private modes that people meet, if one is set, and after `^` if it is reset, the
+// commonest first (xterm's list, "DEC Private Mode Set"; the VT510's manual).
+static EFFECTS: &str = "\
+25 show the cursor^hide the cursor
+2004 bracket what is pasted^do not bracket what is pasted
+1 application cursor keys^normal cursor keys
+7 wrap at the last column^do not wrap at the last column
+1049 save the cursor, enter a clear alternate screen^leave the alternate screen, restore the cursor
+12 blink the cursor^do not blink the cursor
+1006 report the mouse as SGR^report the mouse in single bytes
+1000 report mouse buttons^do not report the mouse
+1002 report mouse buttons and drags^do not report the mouse
+2026 begin a synchronized update^end a synchronized update
+2 ANSI mode^VT52 mode
+3 132 columns^80 columns
+4 smooth scroll^jump scroll
+5 reverse video^normal video
+6 count lines from the top margin^count lines from the top of the screen
+8 repeat keys that are held^do not repeat keys that are held
+9 report mouse presses^do not report the mouse
+33 steady cursor^blinking cursor
+34 right to left^left to right
+40 permit 80 and 132 columns^keep the number of columns
+45 wrap backwards too^do not wrap backwards
+47 enter the alternate screen^leave the alternate screen
+59 kanji and katakana^no kanji and katakana
+66 application keypad^numeric keypad
+67 backarrow key sends BS^backarrow key sends DEL
+69 permit left and right margins^no left and right margins
+80 show sixels without scrolling^scroll with sixels
+1001 report mouse highlights^do not report the mouse
+1003 report mouse buttons and motion^do not report the mouse
+1004 report focus^do not report focus
+1005 report the mouse in UTF-8^report the mouse in single bytes
+1007 the wheel sends arrow keys^the wheel scrolls
+1015 report the mouse as urxvt^report the mouse in single bytes
+1016 report the mouse as SGR in pixels^report the mouse in single bytes
+1021 bold and blinking characters in high intensity^bold and blinking characters in normal intensity
+1034 Meta sets the eighth bit^Meta does not set the eighth bit
+1036 Meta sends ESC^Meta does not send ESC
+1039 Alt sends ESC^Alt does not send ESC
+1047 enter the alternate screen^clear and leave the alternate screen
+1048 save the cursor^restore the cursor
+1337 report keys of iTerm2^do not report keys of iTerm2
+2027 join grapheme clusters^do not join grapheme clusters
+2030 report the selection by cells^do not report the selection by cells
+2031 report the colour scheme^do not report the colour scheme
+2048 report the size^do not report the size
+9001 report keys as win32 input^report keys as characters";
 
 // The state in a report of a mode (the VT510's manual, DECRPM).
 static STATES: &str = "\
@@ -234,10 +138,10 @@ fn add_private_mode(function: ControlFunction, number: i64, to: &mut Phrase) {
             to.add_word(mode.name());
         }
     }
-    match (phrases_of(number), mode) {
-        (Some(Phrases(_, set, reset)), None) => to.add_word(chosen(function, *set, *reset, *set)),
-        (Some(Phrases(_, set, reset)), Some(mode)) => {
-            to.add_word(chosen(function, *set, *reset, mode.words()))
+    match (effects_of(number), mode) {
+        (Some((set, reset)), None) => to.add_word(chosen(function, set, reset, set)),
+        (Some((set, reset)), Some(mode)) => {
+            to.add_word(chosen(function, set, reset, mode.words()))
         }
         (None, Some(mode)) => {
             to.add_word(verb_of(function));
@@ -255,14 +159,9 @@ fn verb_of(function: ControlFunction) -> &'static str {
     chosen(function, "set", "reset", "")
 }
 
-// Returns the row of the private mode of this number.
-fn phrases_of(number: i64) -> Option<&'static Phrases> {
-    for phrases in &PHRASES {
-        if phrases.0 == number {
-            return Some(phrases);
-        }
-    }
-    None
+// Returns the effects of setting and of resetting the private mode of this number.
+fn effects_of(number: i64) -> Option<(&'static str, &'static str)> {
+    words_of(EFFECTS, number, "").split_once('^')
 }
 
 // Returns the words of a function that sets or resets modes, or these of another.

@@ -3,22 +3,29 @@
 use std::alloc::{AllocError, Global};
 
 /// Returns the bytes that a word stands for, in the notations of shells and of programs that show
-/// bytes:
-/// `\e` and `\E` for ESC, `\033` in octal digits, `\x1b` in hexadecimal ones, `\u001b`,
-/// `\U0000001b` and `\u{1b}` for a character, `\a`, `\b`, `\f`, `\n`, `\r`, `\t` and `\v`, and `^[`
-/// for a control, but not right after ESC, which opens a privacy message with it. Any other byte
-/// is itself, and so is one after `\`. A byte that is no part of UTF-8 is U+0000 in the word, and
-/// the character of its number.
+/// bytes: `\e` and `\E` for ESC, `\033` in octal digits, `\x1b` in hexadecimal ones, `\u001b`,
+/// `\U0000001b` and `\u{1b}` for a character, `\a`, `\b`, `\f`, `\n`, `\r`, `\t` and `\v`, `\c[`
+/// for a control, and so `^[`, but not right after ESC, which opens a privacy message with it. Any
+/// other byte is itself, and so is one after `\`. A byte that is no part of UTF-8 is U+0000 in the
+/// word, and the character of its number.
 pub fn bytes_of(alloc: Global, word: &str) -> Result<Vec<u8>, AllocError> {
     let mut bytes = Vec::new(alloc);
-    let mut rest = word.as_bytes();
+    match take_all(word.as_bytes(), &mut bytes) {
+        Ok(()) => Ok(bytes),
+        Err(error) => Err(error),
+    }
+}
+
+// Takes the bytes of a text.
+fn take_all(text: &[u8], bytes: &mut Vec<u8>) -> Result<(), AllocError> {
+    let mut rest = text;
     for _ in 0..u64::MAX {
         if rest.is_empty() {
             break;
         }
-        rest = take(rest, &mut bytes)?;
+        rest = take(rest, bytes)?;
     }
-    Ok(bytes)
+    Ok(())
 }
 
 // Takes the byte that a text begins with, and returns the rest.
@@ -64,12 +71,20 @@ fn take_escape<'t>(text: &'t [u8], bytes: &mut Vec<u8>) -> Result<&'t [u8], Allo
         [b'u', b'{', rest @ ..] => take_braced(text, rest, bytes),
         [b'u', rest @ ..] => take_code(4, text, rest, bytes),
         [b'U', rest @ ..] => take_code(8, text, rest, bytes),
+        [b'c', b'\\', b'\\', rest @ ..] => take_control(b'\\', rest, bytes),
+        [b'c', code @ 0x20..=0x7e, rest @ ..] => take_control(*code, rest, bytes),
         [letter, rest @ ..] => {
             bytes.push(control_of(*letter))?;
             Ok(rest)
         }
         [] => Ok(text),
     }
+}
+
+// Takes the control of this character: of `?` it is DEL, of any other its last five bits.
+fn take_control<'t>(code: u8, rest: &'t [u8], bytes: &mut Vec<u8>) -> Result<&'t [u8], AllocError> {
+    bytes.push(if code == b'?' { 0x7f } else { code & 0x1f })?;
+    Ok(rest)
 }
 
 // Returns the byte that a letter after a `\` stands for.

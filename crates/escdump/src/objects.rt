@@ -34,7 +34,11 @@ pub fn add_object(
         add_said(words.phrase.as_str(), object);
     }
     if kind == Kind::Csi || kind.is_string() {
-        add_fields(kind, item.body(), &mut words.scratch, object);
+        object.add_member(Member::Fields);
+        if let Some(body) = fields_of(kind, item) {
+            add_fields(kind, body, &mut words.scratch, object);
+        }
+        object.add("]");
     }
     add_bytes(item, &mut words.scratch, object);
     object.add("}");
@@ -136,10 +140,27 @@ fn quoted_length(bytes: &[u8]) -> usize {
     bytes.len()
 }
 
+// Returns the bytes that have the fields, if there is one: of a control sequence that is cut those
+// before the last `;`, since the parameter after that may go on, unless an intermediate is there.
+fn fields_of(kind: Kind, item: &Item) -> Option<&[u8]> {
+    let body = item.body();
+    if kind != Kind::Csi || !item.is_cut() {
+        return Some(body);
+    }
+    let mut whole: Option<&[u8]> = None;
+    for at in 0..body.len() {
+        match body[at] {
+            0x20..=0x2f => return Some(body),
+            b';' => whole = Some(&body[..at]),
+            _ => {}
+        }
+    }
+    whole
+}
+
 // Adds the fields of a control sequence, which have digits and colons alone, or of a string: the
 // texts between `;`.
 fn add_fields(kind: Kind, body: &[u8], phrase: &mut Phrase, object: &mut Phrase) {
-    object.add_member(Member::Fields);
     if kind == Kind::Csi {
         let numbers = without_prefix(body);
         if digit_run(numbers) == numbers.len() {
@@ -160,7 +181,6 @@ fn add_fields(kind: Kind, body: &[u8], phrase: &mut Phrase, object: &mut Phrase)
         object.add_string(if is_next { "," } else { "" }, field);
         is_next = true;
     }
-    object.add("]");
 }
 
 // Adds the fields of these bytes, which are digits, `:` and `;`.
@@ -179,7 +199,6 @@ fn add_numbers(numbers: &[u8], object: &mut Phrase) {
         is_next = true;
         rest = more;
     }
-    object.add("]");
 }
 
 // Adds the bytes 30 to 3B alone: digits, `:` and `;`.

@@ -201,39 +201,83 @@ impl<'a> Task<'a> {
             explained: None,
             files: found.files,
         };
-        for given in &found.options {
-            task.take(*given)?;
-        }
+        let taken = task.take_all(&found.options);
         let streams = task.files.len();
         task.options.is_named = streams > 1 || (streams == 1 && task.explained.is_some());
-        Ok(task)
+        match taken {
+            Ok(()) => Ok(task),
+            Err(wrong) => Err(wrong),
+        }
+    }
+
+    // Takes each of these options.
+    fn take_all(&mut self, options: &[Given<'a>]) -> Result<(), Wrong<'a>> {
+        for given in options {
+            self.take(*given)?;
+        }
+        Ok(())
     }
 
     // Takes an option.
     fn take(&mut self, given: Given<'a>) -> Result<(), Wrong<'a>> {
         let options = &mut self.options;
-        match given.name {
-            "--segments" => options.form = Form::Segments,
-            "--escape" => options.form = Form::Bytes,
-            "--json" => options.form = Form::Json,
-            "--stats" => options.form = Form::Stats,
-            "--input" => options.is_input = true,
-            "--cast" => options.recorded = Recorded::Cast,
-            "--timing" => {
+        match asked_by(given.name) {
+            Asked::Form(form) => options.form = form,
+            Asked::Task(kind) => self.kind = kind,
+            Asked::Input => options.is_input = true,
+            Asked::Cast => options.recorded = Recorded::Cast,
+            Asked::Timing => {
                 options.recorded = Recorded::Typescript;
                 self.timing = Some(given.word);
             }
-            "--only" => options.only = listed("--only", given.word)?,
-            "--skip" => options.skip = listed("--skip", given.word)?,
-            "--limit" => options.limit = given.size,
-            "--width" => self.width = Some(given.size),
-            "--explain" => self.explained = Some(given.word),
-            "--color" | "--colour" => self.colors = when_named(given.word),
-            "--help" => self.kind = Kind::Help,
-            "--version" => self.kind = Kind::Version,
-            _ => {}
+            Asked::Only => options.only = listed("--only", given.word)?,
+            Asked::Skip => options.skip = listed("--skip", given.word)?,
+            Asked::Limit => options.limit = given.size,
+            Asked::Width => self.width = Some(given.size),
+            Asked::Explain => self.explained = Some(given.word),
+            Asked::Color => self.colors = when_named(given.word),
+            Asked::Nothing => {}
         }
         Ok(())
+    }
+}
+
+// The thing that an option asks for.
+#[derive(Clone, Copy)]
+enum Asked {
+    Form(Form),
+    Task(Kind),
+    Input,
+    Cast,
+    Timing,
+    Only,
+    Skip,
+    Limit,
+    Width,
+    Explain,
+    Color,
+    Nothing,
+}
+
+// Returns the thing that the option of this name asks for.
+fn asked_by(name: &str) -> Asked {
+    match name {
+        "--segments" => Asked::Form(Form::Segments),
+        "--escape" => Asked::Form(Form::Bytes),
+        "--json" => Asked::Form(Form::Json),
+        "--stats" => Asked::Form(Form::Stats),
+        "--input" => Asked::Input,
+        "--cast" => Asked::Cast,
+        "--timing" => Asked::Timing,
+        "--only" => Asked::Only,
+        "--skip" => Asked::Skip,
+        "--limit" => Asked::Limit,
+        "--width" => Asked::Width,
+        "--explain" => Asked::Explain,
+        "--color" | "--colour" => Asked::Color,
+        "--help" => Asked::Task(Kind::Help),
+        "--version" => Asked::Task(Kind::Version),
+        _ => Asked::Nothing,
     }
 }
 

@@ -2,6 +2,7 @@
 
 use crate::item::Item;
 use crate::kind::{KINDS, Kind};
+use crate::names::{is_known, name_begun, name_of_letters};
 use crate::values::{cut, number_in};
 use dump_page::{Key, Name};
 
@@ -28,14 +29,14 @@ impl<'a> Listed<'a> {
     };
 
     /// Returns the list that a word is; or the first part of it that is neither a kind nor a name.
-    /// A name has a letter that is none of a to z, or a space.
+    /// The first word of a name is one that a line may have.
     pub fn of(list: &'a str) -> Result<Listed<'a>, &'a str> {
         let mut kinds = 0;
         let mut has_names = false;
         for part in list.split(',') {
             match bit_of(part) {
                 Some(bit) => kinds |= bit,
-                None if is_name(part) => has_names = true,
+                None if is_known(first_of(part)) => has_names = true,
                 None => return Err(part),
             }
         }
@@ -82,21 +83,32 @@ fn bit_of(word: &str) -> Option<u64> {
     None
 }
 
-// Returns whether a word may be a name.
-fn is_name(word: &str) -> bool {
-    for byte in word.as_bytes() {
-        if !byte.is_ascii_lowercase() {
-            return true;
-        }
+// Returns the first word of a name.
+fn first_of(name: &str) -> &str {
+    match name.split_once(' ') {
+        Some((first, _)) => first,
+        None => name,
     }
-    false
 }
 
-/// Returns the kind whose word begins with this one, or the other way round.
-pub fn near_kind(word: &str) -> Option<&'static str> {
+/// Returns the kind or the name that is near to a wrong one: the name with its letters; the kind
+/// whose word begins with it, or the other way round; or the first name that begins with it.
+pub fn near_kind(wrong: &str) -> Option<&'static str> {
+    let word = first_of(wrong);
     if word.is_empty() {
         return None;
     }
+    match name_of_letters(word) {
+        Some(name) => Some(name),
+        None => match kind_begun(word) {
+            Some(kind) => Some(kind),
+            None => name_begun(word),
+        },
+    }
+}
+
+// Returns the kind whose word begins with this one, or the other way round.
+fn kind_begun(word: &str) -> Option<&'static str> {
     for kind in KINDS {
         if kind.starts_with(word) || word.starts_with(*kind) {
             return Some(*kind);

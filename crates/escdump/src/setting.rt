@@ -41,6 +41,15 @@ fn halves_of(text: &[u8]) -> Option<(&[u8], u8)> {
 // sequence. The error is that memory was refused.
 fn params_of(text: &[u8], alloc: Global) -> Result<Option<Vec<CsiParam>>, AllocError> {
     let mut params = Vec::new(alloc);
+    match push_params(text, &mut params) {
+        Ok(true) => Ok(Some(params)),
+        Ok(false) => Ok(None),
+        Err(error) => Err(error),
+    }
+}
+
+// Adds the entries of these bytes in this way, and returns whether they are such.
+fn push_params(text: &[u8], params: &mut Vec<CsiParam>) -> Result<bool, AllocError> {
     let mut number: Option<i64> = None;
     let mut has_marks = false;
     for at in 0..text.len() {
@@ -53,18 +62,18 @@ fn params_of(text: &[u8], alloc: Global) -> Result<Option<Vec<CsiParam>>, AllocE
             0x20..=0x2f => true,
             0x3a..=0x3b => false,
             0x3c..=0x3f if at == 0 => false,
-            _ => return Ok(None),
+            _ => return Ok(false),
         };
         if params.len() >= MOST || has_marks && !is_mark {
-            return Ok(None);
+            return Ok(false);
         }
         has_marks = is_mark;
-        push_number(number, &mut params)?;
+        push_number(number, params)?;
         number = None;
         params.push(CsiParam::P(byte))?;
     }
-    push_number(number, &mut params)?;
-    Ok(Some(params))
+    push_number(number, params)?;
+    Ok(true)
 }
 
 // Returns a number with one digit more.

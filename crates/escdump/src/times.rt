@@ -2,9 +2,6 @@
 
 use dump_page::Phrase;
 
-// The decimal digits.
-static DIGITS: [&str; 10] = ["0", "1", "2", "3", "4", "5", "6", "7", "8", "9"];
-
 /// Adds so many microseconds as seconds, with six digits after the point, after spaces if there are
 /// fewer digits before it than this.
 pub fn add_seconds(micros: u64, width: usize, to: &mut Phrase) {
@@ -13,18 +10,8 @@ pub fn add_seconds(micros: u64, width: usize, to: &mut Phrase) {
     let mut left = micros % 1_000_000;
     let mut unit: u64 = 100_000;
     for _ in 0..6 {
-        to.add(digit_words(left / unit.max(1)));
+        to.add_digits(left / unit.max(1));
         left %= unit.max(1);
         unit /= 10;
     }
-}
-
-// Returns the digit of a number below 10.
-fn digit_words(number: u64) -> &'static str {
-    for at in 0..DIGITS.len() {
-        if at as u64 == number {
-            return DIGITS[at];
-        }
-    }
-    ""
 }

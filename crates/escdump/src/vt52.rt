@@ -58,16 +58,19 @@ pub enum Address {
     Whole,
     /// Bytes that may become one.
     Begun,
+    /// A cursor position that the stream cuts.
+    Cut,
     /// Something else.
     Other,
 }
 
 /// Returns whether a cursor position comes first: after `ESC Y` the line and the column, each as a
-/// character past U+0020. If nothing comes after the bytes, none is begun.
+/// character past U+0020. If nothing comes after the bytes, one that is begun is cut.
 pub fn address_in(bytes: &[u8], is_last: bool) -> Address {
     match bytes {
         [0x1b, b'Y', 0x20..=0x7e, 0x20..=0x7e, ..] => Address::Whole,
         [0x1b] | [0x1b, b'Y'] | [0x1b, b'Y', 0x20..=0x7e] if !is_last => Address::Begun,
+        [0x1b, b'Y'] | [0x1b, b'Y', 0x20..=0x7e] => Address::Cut,
         _ => Address::Other,
     }
 }
@@ -107,10 +110,12 @@ pub fn add_vt52(letter: u8, rest: &[u8], to: &mut Phrase) -> bool {
     false
 }
 
-// Adds a line and a column, if there are both. The first of each is a space.
+// Adds a line and a column, as far as they are there. The first of each is a space.
 fn add_place(bytes: &[u8], to: &mut Phrase) {
-    if let [line, column, ..] = bytes {
+    if let [line, rest @ ..] = bytes {
         to.add_integer(" line ", i64::from(line.saturating_sub(0x1f)));
-        to.add_integer(", column ", i64::from(column.saturating_sub(0x1f)));
+        if let [column, ..] = rest {
+            to.add_integer(", column ", i64::from(column.saturating_sub(0x1f)));
+        }
     }
 }

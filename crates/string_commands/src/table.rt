@@ -66,9 +66,13 @@ macro_rules! strings {
             Osc(4), "colours of the palette" said "", "*n:, colour|q:";
             Osc(5), "special colours" said "", "*v:, special colour?0~bold/1~underline/2~blink/\
             3~reverse/4~italic|q:";
-            Osc(6, "1"), "iTerm2 tab colour", "v:,?bg~background/fg~foreground|t:,|\
-            v:,?brightness~brightness|n:";
-            Osc(6, "0"), "switch a special colour", "v:?0~off/1~on|r:,";
+            Osc(6, "1;bg"), "iTerm2 tab colour, background", "t:,|v:,?brightness~brightness|n:";
+            Osc(6, "1;fg"), "iTerm2 tab colour, foreground", "t:,|v:,?brightness~brightness|n:";
+            Osc(6, "0"), "switch special colour bold", "v:?0~off/1~on|r:,";
+            Osc(6, "1"), "switch special colour underline", "v:?0~off/1~on|r:,";
+            Osc(6, "2"), "switch special colour blink", "v:?0~off/1~on|r:,";
+            Osc(6, "3"), "switch special colour reverse", "v:?0~off/1~on|r:,";
+            Osc(6, "4"), "switch special colour italic", "v:?0~off/1~on|r:,";
             Osc(6), "switch a special colour, or the document of Apple's terminal", "r:";
             Osc(7), "working directory", "r:";
             Osc(8), "hyperlink, or where no address is given the end of one", "t:, parameters|r:, \
@@ -134,7 +138,9 @@ macro_rules! strings {
             Osc(60),
                 "allowed features, and ask for them" said "allowed features" alone "ask for the allowed features",
                 "r:";
-            Osc(61), "features disallowed without", "r:";
+            Osc(61),
+                "features disallowed without a permission, and ask for them" said "features disallowed without" alone "ask for the disallowed features",
+                "r:";
             Osc(66), "kitty text of another size", "o:?s~scale/w~width in cells/n~numerator of the \
             fraction/d~denominator of the fraction/v=0~at the top/v=1~at the bottom/v=2~centred \
             vertically/v~vertical alignment/h=0~at the left/h=1~at the right/h=2~centred \
@@ -367,7 +373,7 @@ macro_rules! strings {
 }
 
 /// Says how many rows there are.
-pub const COUNT: usize = 210;
+pub const COUNT: usize = 215;
 
 static ENTRIES: [Entry; COUNT] = strings!(entry);
 

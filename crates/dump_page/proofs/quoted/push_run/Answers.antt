@@ -9,7 +9,7 @@ loop-c-init c = ([], quotes_nothing _)
 pub loop-c-preserved : goal.loop-c-preserved
 loop-c-preserved c =
     let held = c.loop-c.invariant in
-    (_, quotes_more _ _ _ _ _ held.1 c.in_ok-push_shown.ensures)
+    (_, quotes_more _ _ _ _ _ held.1 c.in_ok-push_escaped.ensures.1)
 
 pub returns-then-is_plain : goal.returns-then-is_plain
 returns-then-is_plain c =
