@@ -1,5 +1,5 @@
 -- The values that pass by the options that name groups.
-use Rattle.std.specs.Prelude.{ℕ, ◌≡◌, ◌-◌, ◌/◌, ◌%◌, ◌^◌, ◌==◌, ◌&&◌, ◌||◌, nat_lt, Bool, true, if◌then◌else◌, List, Option, Some, None}
+use Rattle.std.specs.Prelude.{ℕ, ◌≡◌, ◌-◌, ◌/◌, ◌%◌, ◌^◌, ◌==◌, ◌&&◌, ◌||◌, nat_lt, not, Bool, true, if◌then◌else◌, List, Option, Some, None}
 use Rattle.esc_actions.specs.Values.{Value}
 use Rattle.esc_filter.specs.Groups.{IsWithSchemes, admits_groups, groups_of, has, place, with_group}
 use Rattle.esc_filter.specs.Rules.{admits}
@@ -64,6 +64,10 @@ pub record IsChanged (words : ℕ) (passes : Bool) (c d : Choice) : Type 0 where
       ≡ (if is_named g words then passes else has (groups_in c) g)
   pub schemes : (groups_in d).schemes ≡ (groups_in c).schemes
   pub policy : d.policy ≡ c.policy
+
+-- the word of hidden, where these groups have it without sgr, whose renditions end it
+abbrev pub left_hidden : Groups → ℕ
+left_hidden g = if has g group.Hidden && not (has g group.Sgr) then 4 else 0
 
 -- d is the choice c, but for links, which have to have one of these schemes
 abbrev pub IsLinked : List ℕ → Choice → Choice → Type 0

@@ -74,7 +74,7 @@ leaves on, as colours or a link, is taken back at its end, and at each line's wi
                   --collapse)
   --line-reset    by lines, begins each line plain; else a rendition that goes on over a line
                   feed is written again where the next line begins
-  --limit size    the most bytes of an unfinished sequence that are kept (1MiB): a number,
+  --limit size    the most bytes of an unfinished string that are kept (1MiB): a number,
                   as 65536, or 64K, 1M or 1G, also as 64KiB, in powers of 1024
   --encoding name reads utf-8 (the default), utf-16, utf-16le, utf-16be, latin1, or windows-1250
                   to windows-1258

@@ -1,7 +1,7 @@
 //! The groups of actions that the options name.
 ghost use Rattle.std.specs.Prelude.{◌≡◌, ◌<◌, ◌^◌, ◌/◌, false, true};
 ghost use Rattle.esc_filter.specs.Groups.{with_group};
-ghost use Rattle.escfilter.specs.Choices.{IsChanged, IsLinked, IsMoving, begun, begun_by, groups_in, has_word, policy_named};
+ghost use Rattle.escfilter.specs.Choices.{IsChanged, IsLinked, IsMoving, begun, begun_by, groups_in, has_word, left_hidden, policy_named};
 
 use esc_actions::Action;
 use esc_filter::{Admit, Group, Groups, Known, Policy};
@@ -69,6 +69,9 @@ const POLICIES: u32 = 5;
 
 const GROUPS: [Group; 15] = groups!(groups_alone);
 
+// The bit of `hidden` in the words of `DENIED`.
+const HIDDEN: u64 = 4;
+
 static ROWS: [(Group, &str, &str); 15] = groups!(rows);
 
 /// The values that pass: those that a policy admits, or, if groups were added to it or taken away,
@@ -109,6 +112,20 @@ impl<'a> Choice<'a> {
         ensures { IsChanged words false self.entry result }
     {
         self.with(words, false)
+    }
+
+    /// The same, but without `hidden` if `sgr` does not pass: a rendition that ends it is of `sgr`,
+    /// and without one all text after it would be hidden.
+    pub fn settled(self) -> Choice<'a>
+        ensures { IsChanged (left_hidden (groups_in self.entry)) false self.entry result }
+    {
+        let groups = self.all_groups();
+        let words = if groups.has(Group::Hidden) && !groups.has(Group::Sgr) {
+            HIDDEN
+        } else {
+            0
+        };
+        self.without(words)
     }
 
     /// Lets pass as before, but only links to addresses of these schemes.

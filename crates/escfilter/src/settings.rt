@@ -111,9 +111,10 @@ impl<'a> Settings<'a> {
 
     // The choice of what passes, with these schemes of links. The collapse obeys movements too.
     fn policy(self) -> Choice<'a> {
+        let choice = self.choice.settled();
         let choice = match self.schemes {
-            Some(schemes) => self.choice.with_schemes(schemes),
-            None => self.choice,
+            Some(schemes) => choice.with_schemes(schemes),
+            None => choice,
         };
         match self.rows {
             Some(_) => choice.with_movements(),
