@@ -1,5 +1,5 @@
 //! The common parts of the calls that take a stream in chunks.
-ghost use Rattle.std.specs.Prelude.{◌≡◌, ◌≢◌, Some};
+ghost use Rattle.std.specs.Prelude.{◌≡◌, ◌≢◌, IfSome, None, Some};
 ghost use Rattle.esc_calls.specs.InChunks.{IsEnded, Stays, text_of};
 ghost use Rattle.esc_calls.specs.Output.{Copies};
 ghost use Rattle.fallible_alloc.specs.Refusals.{Refused};
@@ -17,12 +17,24 @@ pub(crate) fn begin(alloc: Global, stream: &mut InChunks, kept: Kept) -> u32
     ensures refused { result ≢ DONE → (result ≡ NO_MEMORY) × IsEnded stream.new × Refused Global }
 {
     drop(stream.take(alloc));
-    match fallible_alloc::boxed(alloc, kept) {
-        Ok(kept) => {
+    match boxed(alloc, kept) {
+        Some(kept) => {
             *stream = InChunks::of(kept);
             DONE
         }
-        Err(_) => NO_MEMORY,
+        None => NO_MEMORY,
+    }
+}
+
+// Returns a value in a box. With none, a request for memory was refused. A value of any type is
+// dropped then, so that no proof goes over the parts of each state.
+fn boxed<T: Drop>(alloc: Global, value: T) -> Option<Box<T>>
+    ensures boxed { IfSome result (λ boxed. boxed.value ≡ value) }
+    ensures refused { result ≡ None → Refused Global }
+{
+    match fallible_alloc::boxed(alloc, value) {
+        Ok(boxed) => Some(boxed),
+        Err(_) => None,
     }
 }
 

@@ -3,13 +3,14 @@
 use crate::display::Display;
 use crate::fault::{Fault, ended, tell_cut};
 use crate::frames::Frames;
+use crate::kept::unless;
 use crate::options::Options;
 use crate::reading::display_of;
 use crate::showing::{print_sheet, view_of};
 use command_line::{Ended, Work};
-use esc_sheet::{Sheet, push_differences};
+use esc_sheet::{Sheet, View, push_differences};
 use esc_terminal::Terminal;
-use std::alloc::Global;
+use std::alloc::{AllocError, Global};
 use std::io::{Read, Write};
 
 /// Compares the screens of two streams, one after the other.
@@ -51,17 +52,42 @@ impl<'a, W: Write, E: Write> Frames for Differing<'a, W, E> {
 impl<'a, W: Write, E: Write> Differing<'a, W, E> {
     // Takes the terminal of a stream: keeps the first, and compares the second with it.
     fn take_terminal(&mut self, terminal: Terminal) -> Result<(), Fault> {
-        let Some(first) = self.first.take() else {
-            self.first = Some(terminal);
-            return Ok(());
-        };
-        let mut sheet = Sheet::new(self.alloc);
-        push_differences(
-            &mut sheet,
-            view_of(&first, true)?,
-            view_of(&terminal, true)?,
-        )?;
+        let sheet = compared(self.alloc, &mut self.first, terminal)?;
         self.differ = !sheet.as_str().is_empty();
         print_sheet(&sheet, self.output)
     }
+}
+
+// A value with a screen that is seen.
+trait Seen {
+    // Returns the view of its screen.
+    fn view(&self) -> Result<View<'_>, AllocError>;
+}
+
+impl Seen for Terminal {
+    fn view(&self) -> Result<View<'_>, AllocError> {
+        view_of(self, true)
+    }
+}
+
+// Keeps the first of two, and returns the differences of the second from it.
+fn compared<T: Seen + Drop>(
+    alloc: Global,
+    first: &mut Option<T>,
+    other: T,
+) -> Result<Sheet, AllocError> {
+    let mut sheet = Sheet::new(alloc);
+    let done = match first.take() {
+        Some(one) => push_of(&mut sheet, &one, &other),
+        None => {
+            *first = Some(other);
+            Ok(())
+        }
+    };
+    unless(done, sheet)
+}
+
+// Appends the differences of the second from the first.
+fn push_of<T: Seen>(sheet: &mut Sheet, one: &T, other: &T) -> Result<(), AllocError> {
+    push_differences(sheet, one.view()?, other.view()?)
 }

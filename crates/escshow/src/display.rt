@@ -1,5 +1,6 @@
 //! A terminal, and the lines that it leaves.
 
+use crate::kept::unless;
 use crate::options::{Form, Options, Size};
 use esc_sheet::Log;
 use esc_terminal::Terminal;
@@ -36,25 +37,20 @@ pub struct Display {
 impl Display {
     /// Returns a terminal of this size that was fed nothing, by these options.
     pub fn new(alloc: Global, size: Size, options: Options) -> Result<Display, AllocError> {
-        let mut terminal = if options.is_log && !options.is_cast {
-            Terminal::for_log(alloc, size.columns, size.rows)?
-        } else {
-            Terminal::new(alloc, size.columns, size.rows)?
-        };
-        if options.has_new_lines {
-            terminal.feed(b"\x1b[20h")?;
-        }
+        let mut terminal = terminal_of(alloc, size, options)?;
+        let done = begin(&mut terminal, options);
         let log = if options.is_log {
             Some(Log::new(alloc, options.form != Form::Text))
         } else {
             None
         };
-        Ok(Display {
+        let display = Display {
             terminal,
             log,
             time: None,
             cut: None,
-        })
+        };
+        unless(done, display)
     }
 
     /// Takes bytes more.
@@ -97,5 +93,23 @@ impl Display {
             (Some(screen), Some(styles)) => log.push_screen(screen, styles),
             _ => Err(AllocError),
         }
+    }
+}
+
+// Returns a terminal of this size.
+fn terminal_of(alloc: Global, size: Size, options: Options) -> Result<Terminal, AllocError> {
+    if options.is_log && !options.is_cast {
+        Terminal::for_log(alloc, size.columns, size.rows)
+    } else {
+        Terminal::new(alloc, size.columns, size.rows)
+    }
+}
+
+// Sets the modes that the options ask for.
+fn begin(terminal: &mut Terminal, options: Options) -> Result<(), AllocError> {
+    if options.has_new_lines {
+        terminal.feed(b"\x1b[20h")
+    } else {
+        Ok(())
     }
 }

@@ -8,6 +8,7 @@ mod fault;
 mod frames;
 mod html;
 mod ink;
+mod kept;
 mod options;
 mod reading;
 mod recorded;

@@ -4,6 +4,7 @@ ghost use Rattle.std.specs.Prelude.{◌≤◌, IfOk, length};
 use crate::display::Display;
 use crate::fault::Fault;
 use crate::frames::Frames;
+use crate::kept::unless;
 use crate::options::{DEFAULT_SIZE, Options};
 use crate::recorded::Recorded;
 use command_line::{ErrorCapture, Reason};
@@ -22,18 +23,64 @@ pub fn display_of<R: Read + Drop, F: Frames>(
     let mut chunk = fallible_alloc::read_buffer(alloc)?;
     let mut reader = ErrorCapture::new(input);
     if options.is_cast {
-        let mut recorded = Recorded::new(alloc, options);
-        play(&mut recorded, &mut reader, &mut chunk, frames)?;
-        let mut display = recorded.into_display()?;
-        display.end()?;
-        Ok(display)
+        played(alloc, options, &mut reader, &mut chunk, frames)
     } else {
-        let size = options.size.unwrap_or(DEFAULT_SIZE);
-        let mut display = Display::new(alloc, size, options)?;
-        feed(&mut display, &mut reader, &mut chunk)?;
-        display.end()?;
-        Ok(display)
+        fed(alloc, options, &mut reader, &mut chunk)
     }
+}
+
+// Returns the terminal that was fed a stream.
+fn fed<R: Read>(
+    alloc: Global,
+    options: Options,
+    reader: &mut ErrorCapture<R>,
+    chunk: &mut [u8],
+) -> Result<Display, Fault> {
+    let size = options.size.unwrap_or(DEFAULT_SIZE);
+    let mut display = Display::new(alloc, size, options)?;
+    let done = feed_whole(&mut display, reader, chunk);
+    unless(done, display)
+}
+
+// Returns the terminal that was fed the texts of a recording.
+fn played<R: Read, F: Frames>(
+    alloc: Global,
+    options: Options,
+    reader: &mut ErrorCapture<R>,
+    chunk: &mut [u8],
+    frames: &mut F,
+) -> Result<Display, Fault> {
+    let mut recorded = Recorded::new(alloc, options);
+    let done = play(&mut recorded, reader, chunk, frames);
+    match unless(done, recorded) {
+        Ok(recorded) => ended(recorded.into_display()),
+        Err(fault) => Err(fault),
+    }
+}
+
+// Ends a terminal, if there is one.
+fn ended(display: Result<Display, Fault>) -> Result<Display, Fault> {
+    match display {
+        Ok(mut display) => {
+            let done = end(&mut display);
+            unless(done, display)
+        }
+        Err(fault) => Err(fault),
+    }
+}
+
+fn end(display: &mut Display) -> Result<(), Fault> {
+    Ok(display.end()?)
+}
+
+// Feeds a stream to a terminal, and ends it.
+fn feed_whole<R: Read>(
+    display: &mut Display,
+    reader: &mut ErrorCapture<R>,
+    chunk: &mut [u8],
+) -> Result<(), Fault> {
+    feed(display, reader, chunk)?;
+    end(display)
 }
 
 // Feeds a stream to a terminal, chunk by chunk. A byte 80 to 9F that is no part of a character

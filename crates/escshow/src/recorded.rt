@@ -3,6 +3,7 @@
 use crate::display::{Display, Output};
 use crate::fault::Fault;
 use crate::frames::Frames;
+use crate::kept::put;
 use crate::options::{DEFAULT_SIZE, Options, Size};
 use asciicast::{Event, event_in};
 use dump_time::micros_in;
@@ -96,10 +97,19 @@ impl Recorded {
     }
 
     /// Returns the terminal, and its lines so far. The error is that there was no header.
-    pub fn into_display(mut self) -> Result<Display, Fault> {
-        match self.display.take() {
+    pub fn into_display(self) -> Result<Display, Fault> {
+        let Recorded {
+            alloc: _,
+            options: _,
+            scratch: _,
+            line: _,
+            count,
+            clock: _,
+            display,
+        } = self;
+        match display {
             Some(display) => Ok(display),
-            None => Err(Fault::Line(self.count.saturating_add(1))),
+            None => Err(Fault::Line(count.saturating_add(1))),
         }
     }
 
@@ -180,7 +190,8 @@ impl Recorded {
             Some(size) => size,
             None => size_in(self.alloc, line)?,
         };
-        self.display = Some(Display::new(self.alloc, size, self.options)?);
+        let display = Display::new(self.alloc, size, self.options)?;
+        put(&mut self.display, display);
         Ok(())
     }
 }
