@@ -4,89 +4,103 @@ use crate::color_spaces::{add_space, add_spaced};
 use crate::color_words::add_color;
 use crate::csi_words::add_entries;
 use crate::entries::{number_at, part_at};
-use crate::named::words_of;
 use dump_page::Phrase;
 use esc_sequences::Underline;
 use esc_values::CsiParam;
 use typed_functions::{ColorSpec, Rendition, Renditions, Selection};
 
+// A rendition, by its number.
+#[derive(Clone, Copy)]
+struct Numbered(i64, &'static str);
+
 // The renditions that are one number, the commonest first, but for underlines and colours by place
 // or channels (ECMA-48, 8.3.117; xterm's list, "Character Attributes (SGR)"; aixterm's 90 to 107).
-static RENDITIONS: &str = "\
-0 reset
-1 bold
-30 foreground black
-31 foreground red
-32 foreground green
-33 foreground yellow
-34 foreground blue
-35 foreground magenta
-36 foreground cyan
-37 foreground white
-40 background black
-41 background red
-42 background green
-43 background yellow
-44 background blue
-45 background magenta
-46 background cyan
-47 background white
-7 reversed
-27 not reversed
-22 neither bold nor faint
-3 italic
-2 faint
-90 foreground bright black
-91 foreground bright red
-92 foreground bright green
-93 foreground bright yellow
-94 foreground bright blue
-95 foreground bright magenta
-96 foreground bright cyan
-97 foreground bright white
-5 blinking
-6 rapidly blinking
-8 hidden
-9 crossed out
-10 primary font
-11 first alternative font
-12 second alternative font
-13 third alternative font
-14 fourth alternative font
-15 fifth alternative font
-16 sixth alternative font
-17 seventh alternative font
-18 eighth alternative font
-19 ninth alternative font
-20 Fraktur
-23 not italic
-25 not blinking
-26 proportionally spaced
-28 not hidden
-29 not crossed out
-50 not proportionally spaced
-51 framed
-52 encircled
-53 overlined
-54 neither framed nor encircled
-55 not overlined
-60 ideogram underline or right side line
-61 ideogram double underline or right side lines
-62 ideogram overline or left side line
-63 ideogram double overline or left side lines
-64 ideogram stress mark
-65 no mark of ideograms
-73 superscript
-74 subscript
-75 neither superscript nor subscript
-100 background bright black
-101 background bright red
-102 background bright green
-103 background bright yellow
-104 background bright blue
-105 background bright magenta
-106 background bright cyan
-107 background bright white";
+static RENDITIONS: [Numbered; 74] = [
+    Numbered(0, "reset"),
+    Numbered(1, "bold"),
+    Numbered(30, "foreground black"),
+    Numbered(31, "foreground red"),
+    Numbered(32, "foreground green"),
+    Numbered(33, "foreground yellow"),
+    Numbered(34, "foreground blue"),
+    Numbered(35, "foreground magenta"),
+    Numbered(36, "foreground cyan"),
+    Numbered(37, "foreground white"),
+    Numbered(40, "background black"),
+    Numbered(41, "background red"),
+    Numbered(42, "background green"),
+    Numbered(43, "background yellow"),
+    Numbered(44, "background blue"),
+    Numbered(45, "background magenta"),
+    Numbered(46, "background cyan"),
+    Numbered(47, "background white"),
+    Numbered(7, "reversed"),
+    Numbered(27, "not reversed"),
+    Numbered(22, "neither bold nor faint"),
+    Numbered(3, "italic"),
+    Numbered(2, "faint"),
+    Numbered(90, "foreground bright black"),
+    Numbered(91, "foreground bright red"),
+    Numbered(92, "foreground bright green"),
+    Numbered(93, "foreground bright yellow"),
+    Numbered(94, "foreground bright blue"),
+    Numbered(95, "foreground bright magenta"),
+    Numbered(96, "foreground bright cyan"),
+    Numbered(97, "foreground bright white"),
+    Numbered(5, "blinking"),
+    Numbered(6, "rapidly blinking"),
+    Numbered(8, "hidden"),
+    Numbered(9, "crossed out"),
+    Numbered(10, "primary font"),
+    Numbered(11, "first alternative font"),
+    Numbered(12, "second alternative font"),
+    Numbered(13, "third alternative font"),
+    Numbered(14, "fourth alternative font"),
+    Numbered(15, "fifth alternative font"),
+    Numbered(16, "sixth alternative font"),
+    Numbered(17, "seventh alternative font"),
+    Numbered(18, "eighth alternative font"),
+    Numbered(19, "ninth alternative font"),
+    Numbered(20, "Fraktur"),
+    Numbered(23, "not italic"),
+    Numbered(25, "not blinking"),
+    Numbered(26, "proportionally spaced"),
+    Numbered(28, "not hidden"),
+    Numbered(29, "not crossed out"),
+    Numbered(50, "not proportionally spaced"),
+    Numbered(51, "framed"),
+    Numbered(52, "encircled"),
+    Numbered(53, "overlined"),
+    Numbered(54, "neither framed nor encircled"),
+    Numbered(55, "not overlined"),
+    Numbered(60, "ideogram underline or right side line"),
+    Numbered(61, "ideogram double underline or right side lines"),
+    Numbered(62, "ideogram overline or left side line"),
+    Numbered(63, "ideogram double overline or left side lines"),
+    Numbered(64, "ideogram stress mark"),
+    Numbered(65, "no mark of ideograms"),
+    Numbered(73, "superscript"),
+    Numbered(74, "subscript"),
+    Numbered(75, "neither superscript nor subscript"),
+    Numbered(100, "background bright black"),
+    Numbered(101, "background bright red"),
+    Numbered(102, "background bright green"),
+    Numbered(103, "background bright yellow"),
+    Numbered(104, "background bright blue"),
+    Numbered(105, "background bright magenta"),
+    Numbered(106, "background bright cyan"),
+    Numbered(107, "background bright white"),
+];
+
+// Returns the words of the rendition of this number.
+fn words_at(number: i64) -> &'static str {
+    for rendition in &RENDITIONS {
+        if rendition.0 == number {
+            return rendition.1;
+        }
+    }
+    "not known"
+}
 
 /// Adds the renditions of the parameters of a control sequence, in words. If one is not known, its
 /// parameters come after `not known`.
@@ -122,10 +136,7 @@ fn add_rendition(rendition: Rendition, entries: &[CsiParam], to: &mut Phrase) {
         Rendition::Background(color) => add_colored("background ", color, entries, to),
         Rendition::UnderlineColor(color) => add_colored("underline colour ", color, entries, to),
         Rendition::Underline(underline) => to.add(underline_words(underline)),
-        _ => {
-            let number = number_at(entries, 0).unwrap_or(0);
-            to.add(words_of(RENDITIONS, number, "not known"));
-        }
+        _ => to.add(words_at(number_at(entries, 0).unwrap_or(0))),
     }
 }
 
