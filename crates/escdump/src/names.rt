@@ -195,11 +195,8 @@ fn is_like(name: &str, word: &str, likeness: Likeness) -> bool {
 
 // Returns whether a name begins with these letters, in whatever case.
 fn begins(name: &[u8], letters: &[u8]) -> bool {
-    for at in 0..letters.len() {
-        match name.get(at) {
-            Some(byte) if byte.eq_ignore_ascii_case(&letters[at]) => {}
-            _ => return false,
-        }
+    match name.get(..letters.len()) {
+        Some(begin) => begin.eq_ignore_ascii_case(letters),
+        None => false,
     }
-    true
 }

@@ -3,7 +3,7 @@
 use crate::item::Item;
 use crate::kind::{KINDS, Kind};
 use crate::names::{is_known, name_begun, name_of_letters};
-use crate::values::{cut, number_in};
+use crate::values::{cut, first_word, number_in};
 use dump_page::{Key, Name};
 
 /// A list of kinds and names, with `,` between them.
@@ -36,7 +36,7 @@ impl<'a> Listed<'a> {
         for part in list.split(',') {
             match bit_of(part) {
                 Some(bit) => kinds |= bit,
-                None if is_known(first_of(part)) => has_names = true,
+                None if is_known(first_word(part)) => has_names = true,
                 None => return Err(part),
             }
         }
@@ -83,18 +83,10 @@ fn bit_of(word: &str) -> Option<u64> {
     None
 }
 
-// Returns the first word of a name.
-fn first_of(name: &str) -> &str {
-    match name.split_once(' ') {
-        Some((first, _)) => first,
-        None => name,
-    }
-}
-
 /// Returns the kind or the name that is near to a wrong one: the name with its letters; the kind
 /// whose word begins with it, or the other way round; or the first name that begins with it.
 pub fn near_kind(wrong: &str) -> Option<&'static str> {
-    let word = first_of(wrong);
+    let word = first_word(wrong);
     if word.is_empty() {
         return None;
     }

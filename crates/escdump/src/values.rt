@@ -16,7 +16,7 @@ pub fn cut(text: &[u8], byte: u8) -> (&[u8], Option<&[u8]>) {
 }
 
 /// Returns the first word of a name.
-pub fn first_word(name: &'static str) -> &'static str {
+pub fn first_word(name: &str) -> &str {
     match name.split_once(' ') {
         Some((first, _)) => first,
         None => name,
