@@ -25,8 +25,8 @@ impl Columns {
 
     /// Returns how many columns this character takes, which comes next. None is one that is not
     /// written as itself: it is not shown, looks like a space, or belongs to no writing at all, as
-    /// one for private use; or it is a mark, which takes no column, after no character, a `"` or too
-    /// many marks.
+    /// one for private use; or it is a mark, which takes no column, after no character, after a `"`
+    /// or after too many marks.
     pub fn of(&mut self, c: char) -> Option<usize>
         ensures { IfSome result (λ _. is_shown c ≡ true) }
     {

@@ -37,7 +37,7 @@ impl Mask {
         becomes
     }
 
-    /// Makes the next bytes those that they become. Of text in UTF-8 most are looked at many at
+    /// Makes the next bytes those that they become. It looks at most bytes of text in UTF-8 many at
     /// once.
     pub fn take_all(&mut self, bytes: &mut [u8])
         ensures fed { (s : List ℕ) → HasConsumed s self.old

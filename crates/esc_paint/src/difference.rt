@@ -22,8 +22,8 @@ use std::alloc::{AllocError, Allocator};
 /// the same place.
 ///
 /// It is nothing if the screens are the same. If not, it begins with DECSTR, as the text of
-/// [`push_painting`] does, and each row is written from the first cell on that differs. What that
-/// text leaves out, this one leaves out too. Of a screen of another size the whole is painted.
+/// [`push_painting`] does, and leaves out the same; each row is written from the first cell on that
+/// differs. A screen of another size is painted whole.
 ///
 /// The error is that a request for memory was refused.
 #[tactic(auto, using(crate::proofs::Changing::other_size, crate::proofs::Changing::none_text, crate::proofs::Changing::some_text))]

@@ -164,7 +164,7 @@ fn sequence_name(word: &str, likeness: Likeness) -> Option<&'static str> {
 }
 
 // Returns the first name of a control sequence with this private prefix and this intermediate that
-// is like a word. Of some final bytes a sequence without parameters has another name.
+// is like a word. Some final bytes name one function without parameters and another one with two.
 fn marked_name(
     marks: (Option<u8>, Option<u8>),
     word: &str,

@@ -1,10 +1,10 @@
 //! A parser of terminal escape sequences in the memory of its caller, for `stream_c`. It follows
 //! the parser of DEC's terminals (<https://vt100.net/emu/dec_ansi_parser>) as `esc_frame` does.
 //!
-//! [`next`](next::next) takes bytes of a stream up to the next [`EscEvent`](event::EscEvent). What
-//! is unfinished stays in an [`EscParser`](parser::EscParser) and in the lower half of a buffer;
-//! the texts of strings come in its upper half. No call takes memory, and a stream can be cut
-//! anywhere.
+//! [`next`](next::next) takes bytes of a stream up to the next [`EscEvent`](event::EscEvent). An
+//! unfinished segment stays in an [`EscParser`](parser::EscParser) and in the lower half of a
+//! buffer; the texts of strings come in its upper half. No call takes memory, and a stream can be
+//! cut anywhere.
 //!
 //! ```text
 //! let (mut parser, mut event) = (EscParser::new(), EscEvent::new());

@@ -210,7 +210,8 @@ impl VTActor for Hold {
     }
 }
 
-// Returns the function of a control sequence. Of more parameters than are kept the first count.
+// Returns the function of a control sequence. If it has more parameters than are kept, the first
+// ones count.
 fn function_of(params: &[CsiParam], parameters_truncated: bool, byte: u8) -> Function<'_> {
     if parameters_truncated {
         Function::of_kept(params, byte)

@@ -45,8 +45,10 @@ enum Next {
 /// Reads the stream of another reader, up to a line that begins or ends a group: `##[group]NAME`
 /// and `##[endgroup]`, or `::group::NAME` and `::endgroup::`, maybe after a time, as GitHub has
 /// them; or `section_start:TIME:NAME` and `section_end:TIME:NAME`, a carriage return and `ESC [0K`,
-/// as GitLab. [`mark`](Sections::mark) says then which it is, and the next read begins after it. An
-/// end is a mark if a group of its name is open, or of GitHub any, and ends those in it too.
+/// as GitLab. [`mark`](Sections::mark) says then which it is, and the next read begins after it.
+///
+/// An end is a mark if a group of its kind is open, which for GitLab has its name too. It ends the
+/// groups in that one as well.
 ///
 /// It keeps a line up to its end, but at most 4 KiB and the bytes of one read, and the names of the
 /// groups that are open. A longer line is no mark. If no groups are asked for, it reads the stream
