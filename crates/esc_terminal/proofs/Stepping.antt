@@ -20,7 +20,7 @@ use Rattle.esc_screen.specs.declared.step.Step.{Step}
 use Rattle.esc_screen.proofs.Printing.RowGoesOnOnce.{gone_joined, joins_once}
 use Rattle.esc_screen.proofs.Printing.RunsOfCharacters.{in_chunks}
 use Rattle.esc_screen.proofs.Scrolled.RowsScrolledOff.{in_parts}
-use Rattle.esc_terminal.specs.Fed.{Does, Shows, Takes, TakesAll, TakesValue, known_in, requests_in, shown_in}
+use Rattle.esc_terminal.specs.Fed.{Does, IsShown, Shows, Takes, TakesAll, TakesValue, known_in, requests_in, shown_in}
 use Rattle.esc_terminal.specs.Kept.{HandsOut, KeepsAction, KeepsFunction, KeepsStep}
 use Rattle.esc_terminal.specs.Requests.{function_request, request_list}
 use Rattle.esc_terminal.specs.Scrolled.{GoesOffOn, Row, off_after, off_by_value, with_known}
@@ -222,6 +222,16 @@ rows_given {A = A} takes z s b p r q h f =
     let vs = yield_within {A = A} (Some 0x1000) s b in
     subst (λ x. FoldsTo takes r x q)
     (ap (λ x. off_after x (shown_in p) vs) h.size ∙ ap (λ x. off_after z x vs) h.shown) f
+
+pub rows_from : {R A : Type 0} (takes : R → Row → R → Type 0) (z : Size) (x : Shown)
+    (s b : List ℕ) (p : State A) (r q : R) → IsShown z x p
+    → FoldsTo takes r (off_after (size_of p.screen) (shown_in p)
+    (yield_within {A = A} (Some 0x1000) s b)) q
+    → FoldsTo takes r (off_after z x (yield_within {A = A} (Some 0x1000) s b)) q
+rows_from {A = A} takes z x s b p r q h f =
+    let vs = yield_within {A = A} (Some 0x1000) s b in
+    subst (λ y. FoldsTo takes r y q)
+    (ap (λ y. off_after y (shown_in p) vs) h.size ∙ ap (λ y. off_after z y vs) h.shown) f
 
 off_more : {A : Type 0} (z : Size) (t : Shown) (us vs : List (Value A))
     → off_after z t (us ++ vs) ≡ off_after z t us ++ off_after z (shown_after z t us) vs

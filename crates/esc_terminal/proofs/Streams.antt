@@ -1,5 +1,5 @@
 -- Values that a terminal was given.
-use Rattle.std.proofs.Common.{ℕ, ◌≡◌, List, [], ◌∷◌, ◌++◌, None, Some, inl, inr, ap, sym, subst, ◌∙◌, append_assoc, append-nil, refl, true}
+use Rattle.std.proofs.Common.{ℕ, ◌≡◌, List, [], ◌∷◌, ◌++◌, IsSomeAnd, None, Option, Some, inl, inr, ap, sym, subst, ◌∙◌, append_assoc, append-nil, refl, true}
 use Rattle.std.specs.List.{FoldsTo}
 use Rattle.esc_actions.proofs.Meaning.MeaningsJoin.{meaning_more, meaning_nil}
 use Rattle.esc_actions.specs.Meaning.{yield_within}
@@ -13,12 +13,12 @@ use Rattle.esc_screen.specs.Halves.{HasWholeRows}
 use Rattle.esc_screen.specs.Sound.{IsSound}
 use Rattle.esc_screen.proofs.Sound.StaysSound.{stays_sound}
 use Rattle.esc_screen.proofs.Whole.GridsStayWhole.{stays_whole}
-use Rattle.esc_terminal.specs.Fed.{Shows, Takes, TakesSteps, TakesValue, known_in, requests_in, shown_in}
-use Rattle.esc_terminal.specs.Laws.{GoesOn}
+use Rattle.esc_terminal.specs.Fed.{HasConsumed, IsShown, Shows, Takes, TakesSteps, TakesValue, known_in, requests_in, shown_in}
+use Rattle.esc_terminal.specs.Laws.{GoesOn, StandsAt}
 use Rattle.esc_terminal.specs.Links.{first_known}
 use Rattle.esc_terminal.specs.Requests.{requests_of}
 use Rattle.esc_terminal.specs.Steps.{steps_of}
-use Rattle.esc_terminal.specs.Streams.{Shown, asked_by, first_shown, shown_after, shown_by, values_of}
+use Rattle.esc_terminal.specs.Streams.{Shown, asked_by, first_shown, shown_after, shown_by, shown_of, values_of}
 use Rattle.esc_terminal.specs.declared.state.State.{State}
 
 shown_more : {A : Type 0} (z : Size) (t : Shown) (us vs : List (Value A))
@@ -96,6 +96,47 @@ shows_more {A} z s b p q none h f =
       },
       r.requests ∙ ap (λ x. x ++ asked_by vs) none,
     )
+
+-- ---- from what it shows
+
+pub shown_cleared : {A : Type 0} (z : Size) (x : Shown) (p q : State A) → q.screen ≡ p.screen
+    → known_in q ≡ known_in p → q.title ≡ p.title → IsShown z x p → IsShown z x q
+shown_cleared z x p q screen known title h = record {
+  shown = ap (λ y. record (shown_in q) { grid = grid_of y }) screen
+      ∙ ap (λ y. record (shown_in p) { known = y; title = q.title }) known
+      ∙ ap (λ y. record (shown_in p) { title = y }) title ∙ h.shown;
+  size = ap size_of screen ∙ h.size;
+}
+
+pub stands_more : {A : Type 0} (z : Size) (x : Shown) (s b : List ℕ) (p q : State A)
+    → requests_in p ≡ [] → IsShown z x p
+    → FoldsTo (At value_of Takes) p (yield_within (Some 0x1000) s b) q
+    → IsShown z (shown_after z x (yield_within {A = A} (Some 0x1000) s b)) q
+    × (requests_in q ≡ asked_by (yield_within {A = A} (Some 0x1000) s b))
+stands_more {A} z x s b p q none h f =
+    let vs = yield_within {A = A} (Some 0x1000) s b in
+    let r = all_did p vs q f in (
+      record {
+        shown = r.shown ∙ ap (λ y. shown_after y (shown_in p) vs) h.size
+            ∙ ap (λ y. shown_after z y vs) h.shown;
+        size = r.size ∙ h.size;
+      },
+      r.requests ∙ ap (λ y. y ++ asked_by vs) none,
+    )
+
+shows_this : {A : Type 0} (z : Size) (s : List ℕ) (o : Option (State A)) → IsSomeAnd o (Shows z s)
+    → IsSomeAnd o (IsShown z (shown_of A z s))
+shows_this z s None h = h
+shows_this z s (Some p) h = record {
+  shown = h.shown;
+  size = h.size;
+}
+
+pub stands_at : (A : Type 0) → StandsAt A
+stands_at A = λ z s t h. record {
+  parser = h.parser;
+  state = shows_this z s t.state h.state;
+}
 
 -- ---- laws
 

@@ -1,5 +1,5 @@
 -- Streams that were fed to a terminal.
-use Rattle.std.specs.Prelude.{ℕ, ◌≡◌, false, true, List, [], ◌++◌, IsSomeAnd, None, Option, Some}
+use Rattle.std.specs.Prelude.{ℕ, ◌≡◌, false, true, List, [], ◌++◌, IsErr, IsSomeAnd, None, OnErr, OnOk, Option, Result, Some}
 use Rattle.esc_actions.specs.Meaning.{yield_within}
 use Rattle.esc_actions.specs.Values.{Value, value_of}
 use Rattle.esc_actions.specs.declared.action.Action.{Action}
@@ -14,7 +14,7 @@ use Rattle.esc_screen.specs.declared.screen.Screen.{Screen}
 use Rattle.esc_screen.specs.declared.step.Step.{Step}
 use Rattle.esc_terminal.specs.Requests.{function_request, request_list, requests_of}
 use Rattle.esc_terminal.specs.Steps.{csi_steps, function_known, function_steps, known_by, steps_of}
-use Rattle.esc_terminal.specs.Streams.{Shown, asked_by, shown_of, title_by}
+use Rattle.esc_terminal.specs.Streams.{Shown, asked_by, shown_after, shown_of, title_by}
 use Rattle.esc_terminal.specs.declared.request.Request.{Request}
 use Rattle.esc_terminal.specs.declared.state.State.{State}
 use Rattle.esc_terminal.specs.declared.styles.Styles.{Styles}
@@ -127,3 +127,38 @@ After t C = (z : Size) (s : List ℕ) → HasConsumed z s t → C z s
 abbrev pub TakesIn : {A : Type 0} → Size → List ℕ → List ℕ → Terminal A → Type 0
 TakesIn {A} z s b t = HasConsumed z (s ++ b) t
     × (requests_now t ≡ asked_by (yield_within {A = A} (Some 0x1000) s b))
+
+-- ---- from a screen, as after a change of its size
+
+-- it shows this on a screen of this size
+pub record IsShown {A : Type 0} (z : Size) (x : Shown) (p : State A) : Type 0 where
+  pub shown : shown_in p ≡ x
+  pub size : size_of p.screen ≡ z
+
+-- the terminal, of this size, has read these bytes and shows this
+pub record Stands {A : Type 0} (z : Size) (x : Shown) (s : List ℕ) (t : Terminal A) : Type 0 where
+  pub parser : ParserHasConsumedWithin (Some 0x1000) s t.parser
+  pub state : IsSomeAnd t.state (IsShown z x)
+
+-- this holds of all that the terminal may show
+abbrev pub From : {A : Type 0} → Terminal A → (Size → Shown → List ℕ → Type 0) → Type 0
+From t C = (z : Size) (x : Shown) (s : List ℕ) → Stands z x s t → C z x s
+
+-- it has read b too, shows what b makes of that, and has the requests that b adds
+abbrev pub StandsAfter : {A : Type 0} → Size → Shown → List ℕ → List ℕ → Terminal A → Type 0
+StandsAfter {A} z x s b t =
+    Stands z (shown_after z x (yield_within {A = A} (Some 0x1000) s b)) (s ++ b) t
+    × (requests_now t ≡ asked_by (yield_within {A = A} (Some 0x1000) s b))
+
+-- a terminal goes on from what it shows, or there is a reason why not
+pub record GoesOnFrom {A X E : Type 0} (p : Terminal A) (b : List ℕ) (r : Result X E)
+    (why : Type 0) (q : Terminal A) : Type 0 where
+  pub ok : From p (λ z x s. OnOk r (StandsAfter z x s b q))
+  pub refused : From p (λ z x s. OnErr r why)
+
+-- an error ends the terminal
+pub record Ends {A X E : Type 0} (p : Terminal A) (r : Result X E) (q : Terminal A) : Type 0 where
+  -- it is broken then
+  pub broken : OnErr r (IsBroken q)
+  -- a broken one stays so, and returns an error
+  pub failed : IsBroken p → IsErr r × IsBroken q

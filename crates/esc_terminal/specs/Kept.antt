@@ -1,5 +1,5 @@
 -- A terminal that hands out the rows that are scrolled off.
-use Rattle.std.specs.Prelude.{◌≡◌, ◌+◌, ◌-◌, ◌≤◌, ◌&&◌, nat_le, not, ℕ, Bool, false, true, length, List, [], ◌∷◌, Some}
+use Rattle.std.specs.Prelude.{◌≡◌, ◌+◌, ◌-◌, ◌≤◌, ◌&&◌, nat_le, not, ℕ, Bool, false, true, length, List, [], ◌∷◌, OnErr, OnOk, Result, Some}
 use Rattle.std.specs.List.{FoldsTo, list_all}
 use Rattle.esc_values.specs.Params.{is_from}
 use Rattle.esc_actions.specs.Values.{value_of}
@@ -12,7 +12,7 @@ use Rattle.esc_screen.specs.Screens.{grid_of, size_of}
 use Rattle.esc_screen.specs.Scrolled.{off_from}
 use Rattle.esc_screen.specs.declared.cell.Cell.{Cell}
 use Rattle.esc_screen.specs.declared.step.Step.{Step}
-use Rattle.esc_terminal.specs.Fed.{Takes, TakesAll, TakesIn, TakesSequence, TakesSteps, known_in, shown_in}
+use Rattle.esc_terminal.specs.Fed.{From, StandsAfter, Takes, TakesAll, TakesIn, TakesSequence, TakesSteps, known_in, shown_in}
 use Rattle.esc_terminal.specs.Scrolled.{Row, off_after, off_by_value, with_known}
 use Rattle.esc_terminal.specs.Steps.{csi_steps, function_steps}
 use Rattle.esc_terminal.specs.Streams.{shown_of}
@@ -77,3 +77,11 @@ abbrev pub KeepsIn : {R A : Type 0} → (R → Row → R → Type 0) → Size �
 KeepsIn {A = A} takes z s b old t new = TakesIn z s b t
     × FoldsTo takes old
     (off_after z (shown_of A z s) (yield_within {A = A} (Some 0x1000) s b)) new
+
+-- a terminal goes on from what it shows, and hands out what b scrolls off that; or there is a
+-- reason why not
+pub record KeepsFrom {R A X E : Type 0} (takes : R → Row → R → Type 0) (p : Terminal A)
+    (b : List ℕ) (old : R) (r : Result X E) (why : Type 0) (q : Terminal A) (new : R) : Type 0 where
+  pub ok : From p (λ z x s. OnOk r (StandsAfter z x s b q
+      × FoldsTo takes old (off_after z x (yield_within {A = A} (Some 0x1000) s b)) new))
+  pub refused : From p (λ z x s. OnErr r why)

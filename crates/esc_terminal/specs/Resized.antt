@@ -1,12 +1,10 @@
 -- A terminal of another size.
-use Rattle.std.specs.Prelude.{ℕ, ◌≡◌, List, IsSomeAnd, Some, take}
+use Rattle.std.specs.Prelude.{ℕ, ◌≡◌, List, take}
 use Rattle.std.specs.List.{FoldsTo}
-use Rattle.esc_parse.specs.Fed.{ParserHasConsumedWithin}
 use Rattle.esc_screen.specs.Grids.{Size}
 use Rattle.esc_screen.specs.Resized.{Resizes, leaving_rows, resized_grid, size_with}
-use Rattle.esc_screen.specs.Screens.{grid_of, size_of}
 use Rattle.esc_screen.specs.Scrolled.{main_rows}
-use Rattle.esc_terminal.specs.Fed.{known_in, requests_in, shown_in}
+use Rattle.esc_terminal.specs.Fed.{Stands, known_in, requests_in, shown_in}
 use Rattle.esc_terminal.specs.Scrolled.{Row, with_known}
 use Rattle.esc_terminal.specs.Streams.{Shown}
 use Rattle.esc_terminal.specs.declared.keeping.Keeping.{Keeping}
@@ -30,11 +28,6 @@ pub record GetsSize {A : Type 0} (p : State A) (m n : ℕ) (q : State A) : Type 
   pub title : q.title ≡ p.title
   pub requests : requests_in q ≡ requests_in p
 
--- it shows this on a screen of this size
-pub record IsShown {A : Type 0} (z : Size) (x : Shown) (p : State A) : Type 0 where
-  pub shown : shown_in p ≡ x
-  pub size : size_of p.screen ≡ z
-
 -- so does a screen that hands out the rows that leave
 abbrev pub KeepsSize : {R A : Type 0} → (R → Row → R → Type 0) → Keeping R A → ℕ → ℕ
     → Keeping R A → Type 0
@@ -43,16 +36,7 @@ KeepsSize takes p m n q = GetsSize p.state m n q.state
 
 -- ---- terminals
 
--- the terminal, of this size, read these bytes and shows this
-pub record Stands {A : Type 0} (z : Size) (x : Shown) (s : List ℕ) (t : Terminal A) : Type 0 where
-  pub parser : ParserHasConsumedWithin (Some 0x1000) s t.parser
-  pub state : IsSomeAnd t.state (IsShown z x)
-
--- this holds of all that it may show
-abbrev pub From : {A : Type 0} → Terminal A → (Size → Shown → List ℕ → Type 0) → Type 0
-From t C = (z : Size) (x : Shown) (s : List ℕ) → Stands z x s t → C z x s
-
--- it read no more, and shows the same with so many columns and rows
+-- it has read no more, and shows the same with so many columns and rows
 abbrev pub StandsWith : {A : Type 0} → Size → Shown → List ℕ → ℕ → ℕ → Terminal A → Type 0
 StandsWith z x s columns rows t =
     Stands (size_with rows columns z) (resized_shown z (size_with rows columns z) x) s t

@@ -1,5 +1,5 @@
 //! Laws of terminals, for every allocator `A`, which the type of the actions names.
-ghost use Rattle.esc_terminal.specs.Laws.{GoesOn, IsAlwaysSound, IsAlwaysWhole};
+ghost use Rattle.esc_terminal.specs.Laws.{GoesOn, IsAlwaysSound, IsAlwaysWhole, StandsAt};
 ghost use Rattle.esc_terminal.specs.Scrolled.{GoesOffOn};
 
 use std::alloc::Allocator;
@@ -23,4 +23,9 @@ pub fn goes_on<A: Allocator>()
 /// The rows that a stream scrolls off come first, and then those that the bytes after it do.
 pub fn goes_off_on<A: Allocator>()
     ensures { GoesOffOn A }
+{}
+
+/// A terminal that was fed a stream shows the screen of that.
+pub fn stands_at<A: Allocator>()
+    ensures { StandsAt A }
 {}

@@ -28,9 +28,9 @@ pub struct Terminal<A: Allocator = Global> {
 }
 
 impl<A: Allocator + Copy> Terminal<A> {
-    ghost use Rattle.esc_terminal.specs.Fed.{After, IsBroken, TakesIn, HasConsumed, for_log, requests_now, screen_size};
-    ghost use Rattle.esc_terminal.specs.Kept.{KeepsIn};
-    ghost use Rattle.esc_terminal.specs.Resized.{From, StandsWith, off_by_size};
+    ghost use Rattle.esc_terminal.specs.Fed.{After, Ends, From, GoesOnFrom, IsBroken, TakesIn, HasConsumed, for_log, requests_now, screen_size};
+    ghost use Rattle.esc_terminal.specs.Kept.{KeepsFrom, KeepsIn};
+    ghost use Rattle.esc_terminal.specs.Resized.{StandsWith, off_by_size};
 
     /// A terminal of so many columns and rows at the beginning of a stream: each should be 1 at
     /// least.
@@ -71,8 +71,8 @@ impl<A: Allocator + Copy> Terminal<A> {
     pub fn feed(&mut self, bytes: &[u8]) -> Result<(), AllocError>
         ensures given { After self.old (λ z s. OnOk result (TakesIn z s bytes.now self.new)) }
         ensures refused { After self.old (λ z s. OnErr result (Refused A)) }
-        ensures broken { OnErr result (IsBroken self.new) }
-        ensures failed { IsBroken self.old → IsErr result × IsBroken self.new }
+        ensures goes_on { GoesOnFrom self.old bytes.now result (Refused A) self.new }
+        ensures ended { Ends self.old result self.new }
     {
         let Some(state) = self.state.take() else {
             return Err(AllocError);
@@ -95,8 +95,9 @@ impl<A: Allocator + Copy> Terminal<A> {
         ensures given { After self.old (λ z s. OnOk result.0
             (KeepsIn R.takes z s bytes.now rows self.new result.1)) }
         ensures refused { After self.old (λ z s. OnErr result.0 (Refused A ⊎ R.fails)) }
-        ensures broken { OnErr result.0 (IsBroken self.new) }
-        ensures failed { IsBroken self.old → IsErr result.0 × IsBroken self.new }
+        ensures goes_on { KeepsFrom R.takes self.old bytes.now rows result.0 (Refused A ⊎ R.fails)
+            self.new result.1 }
+        ensures ended { Ends self.old result.0 self.new }
     {
         let Some(state) = self.state.take() else {
             return (Err(AllocError), rows);
@@ -116,11 +117,11 @@ impl<A: Allocator + Copy> Terminal<A> {
         }
     }
 
-    /// Gives its screen so many columns and rows, each of which should be 1 at least, as xterm does
-    /// ([`Screen::resize`]). Its looks, links, title and requests stay.
+    /// Gives its screen so many columns and rows, as xterm does ([`Screen::resize`]). Both should
+    /// be 1 at least. Its looks, links, title and requests stay.
     ///
-    /// The error is that a request for memory was refused: it is as before then. After an error of
-    /// [`feed`](Self::feed), it is that one.
+    /// The error is that a request for memory was refused: nothing has changed then. After an error
+    /// of [`feed`](Self::feed) it is that error.
     pub fn resize(&mut self, columns: u16, rows: u16) -> Result<(), AllocError>
         ensures resized { From self.old
             (λ z x s. OnOk result (StandsWith z x s columns rows self.new)) }
@@ -148,8 +149,7 @@ impl<A: Allocator + Copy> Terminal<A> {
             (λ z x s. OnOk result.0 (StandsWith z x s columns rows self.new
             × FoldsTo R.takes sink (off_by_size rows x) result.1)) }
         ensures refused { From self.old (λ z x s. OnErr result.0 (Refused A ⊎ R.fails)) }
-        ensures broken { OnErr result.0 (IsBroken self.new) }
-        ensures failed { IsBroken self.old → IsErr result.0 × IsBroken self.new }
+        ensures ended { Ends self.old result.0 self.new }
     {
         let Some(state) = self.state.take() else {
             return (Err(AllocError), sink);
