@@ -12,8 +12,7 @@ use esc_device::DeviceControlMode;
 use std::alloc::{AllocError, Allocator};
 
 /// Returns whether the action is writable: its text, whatever follows it, reads back as the action.
-/// A
-/// `PrintString` reads back as its characters, and is writable if it has one or more and all are
+/// A `PrintString` reads back as its characters, and is writable if it has one or more and all are
 /// clear. An `Enter`, a byte of data and an `Exit` read back in a group, and only there.
 ///
 /// Takes time and memory in proportion to the action's text, and frees all the memory again. A
