@@ -16,9 +16,13 @@ image_read t = image_of {A = Global} t
 abbrev pub image_table : List ℕ → Table
 image_table t = table_of (fields_of_image (image_read t))
 
--- the value is that of the image that the text is: its kind, the number of its fields, and the
--- number of bytes of their texts
-pub record IsImage (t : List ℕ) (v : ImageValue) : Type 0 where
-  pub kind : v.kind ≡ image_number (image_kind (image_read t))
-  pub count : v.field_count ≡ length (image_table t).0
-  pub length : v.text_length ≡ length (image_table t).1
+-- the value is that of an image, or of none: its kind, the number of its fields, and the number of
+-- bytes of their texts
+pub record IsImageOf (i : Option (KittyImage Global)) (v : ImageValue) : Type 0 where
+  pub kind : v.kind ≡ image_number (image_kind i)
+  pub count : v.field_count ≡ length (table_of (fields_of_image i)).0
+  pub length : v.text_length ≡ length (table_of (fields_of_image i)).1
+
+-- it is that of the image that the text is
+abbrev pub IsImage : List ℕ → ImageValue → Type 0
+IsImage t = IsImageOf (image_read t)

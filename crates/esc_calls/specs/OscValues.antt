@@ -17,9 +17,13 @@ command_of t = meaning {A = Global} (parts_of t)
 abbrev pub table_in : List ℕ → Table
 table_in t = table_of (fields_of (command_of t))
 
--- the value is that of the command that the text means: its kind, the number of its fields, and the
--- number of bytes of their texts
-pub record IsValue (t : List ℕ) (v : OscValue) : Type 0 where
-  pub kind : v.kind ≡ kind_number (kind_of (command_of t))
-  pub count : v.field_count ≡ length (table_in t).0
-  pub length : v.text_length ≡ length (table_in t).1
+-- the value is that of a command: its kind, the number of its fields, and the number of bytes of
+-- their texts
+pub record IsValueOf (c : OperatingSystemCommand Global) (v : OscValue) : Type 0 where
+  pub kind : v.kind ≡ kind_number (kind_of c)
+  pub count : v.field_count ≡ length (table_of (fields_of c)).0
+  pub length : v.text_length ≡ length (table_of (fields_of c)).1
+
+-- it is that of the command that the text means
+abbrev pub IsValue : List ℕ → OscValue → Type 0
+IsValue t = IsValueOf (command_of t)

@@ -1,6 +1,8 @@
 //! The image of kitty's that the text of an APC is, as fields.
 ghost use Rattle.std.specs.Prelude.{◌≡◌, IfOk, OnErr};
-ghost use Rattle.esc_calls.specs.ImageValues.{IsImage, image_table};
+ghost use Rattle.flat_values.specs.Fields.{table_of};
+ghost use Rattle.flat_values.specs.Images.{fields_of_image};
+ghost use Rattle.esc_calls.specs.ImageValues.{IsImage, IsImageOf, image_table};
 ghost use Rattle.esc_calls.specs.Reads.{Reads};
 ghost use Rattle.fallible_alloc.specs.Refusals.{Refused};
 
@@ -31,9 +33,18 @@ fn read(alloc: Global, text: &[u8]) -> Result<(ImageValue, Fields), AllocError>
     ensures refused { OnErr result (Refused Global) }
 {
     let image = KittyImage::parse_apc(alloc, text)?;
-    let fields = Fields::of_image(alloc, &image)?;
+    told(alloc, &image)
+}
+
+// Returns the value of an image, and its fields.
+fn told(alloc: Global, image: &Option<KittyImage>) -> Result<(ImageValue, Fields), AllocError>
+    ensures value { IfOk result (λ r. IsImageOf image.now r.0) }
+    ensures fields { IfOk result (λ r. r.1 ≡ table_of (fields_of_image image.now)) }
+    ensures refused { OnErr result (Refused Global) }
+{
+    let fields = Fields::of_image(alloc, image)?;
     let value = ImageValue {
-        kind: ImageKind::of(&image).number(),
+        kind: ImageKind::of(image).number(),
         field_count: fields.rows().len(),
         text_length: fields.text().len(),
     };
