@@ -368,6 +368,10 @@ screen_feed = _long.escape_stream_screen_feed
 screen_feed.argtypes = (_screen, *_length)
 screen_feed.restype = c_uint32
 
+screen_resize = _long.escape_stream_screen_resize
+screen_resize.argtypes = (_screen, c_uint16, c_uint16)
+screen_resize.restype = c_uint32
+
 screen_state = _short.escape_stream_screen_state_of
 screen_state.argtypes = (_screen, POINTER(RawScreenState))
 screen_state.restype = c_uint32

@@ -134,6 +134,12 @@ def _char(cell: RawCell) -> Char:
     )
 
 
+def _checked(*counts: int) -> None:
+    for count in counts:
+        if not 0 < count < 1 << 16:
+            raise ValueError(f"{count} is no number of columns or lines")
+
+
 class Screen:
     """The screen of a terminal of a size for a stream that comes in chunks.
 
@@ -158,9 +164,7 @@ class Screen:
 
         Raises ValueError if there are no columns or no lines, or more than 65,535.
         """
-        for count in (columns, lines):
-            if not 0 < count < 1 << 16:
-                raise ValueError(f"{count} is no number of columns or lines")
+        _checked(columns, lines)
         self._in_use = threading.Lock()
         self._columns, self._lines = columns, lines
         self._raw = RawScreen()
@@ -184,6 +188,20 @@ class Screen:
         """Takes the next chunk of the stream. Text is taken as UTF-8."""
         chunk = chunk.encode() if isinstance(chunk, str) else _library.bytes_of(chunk)
         self._do(_library.screen_feed, chunk, len(chunk))
+
+    def resize(self, lines: int | None = None, columns: int | None = None) -> None:
+        """Gives it so many lines and columns, or as many as before, as xterm does without saved
+        lines: a line is cut or gets blank cells, and lines go and come at the bottom, but as many
+        leave at the top as that of the cursor needs to stay. Those of the main screen are scrolled
+        off.
+
+        Raises ValueError if there are no columns or no lines, or more than 65,535.
+        """
+        lines = self._lines if lines is None else lines
+        columns = self._columns if columns is None else columns
+        _checked(columns, lines)
+        self._do(_library.screen_resize, columns, lines)
+        self._columns, self._lines = columns, lines
 
     @property
     def display(self) -> list[str]:
@@ -257,7 +275,8 @@ class Screen:
 
     @property
     def history(self) -> list[list[Char]]:
-        """The lines that were scrolled off and are kept, the oldest one first."""
+        """The lines that were scrolled off and are kept, the oldest one first: each has as many
+        cells as the screen had columns then."""
         kept = range(self._state().kept)
         return [self._chars(_library.screen_scrolled, at) for at in kept]
 
@@ -299,9 +318,14 @@ class Screen:
         return state
 
     def _cells(self, call: Callable[..., int], at: int) -> Iterable[RawCell]:
-        cells = (RawCell * self._columns)()
-        self._do(call, at, cells, self._columns, byref(c_size_t()))
-        return cells
+        # (a line that was scrolled off has the columns of the screen at that time)
+        room, needed = self._columns, c_size_t()
+        while True:
+            cells = (RawCell * room)()
+            self._do(call, at, cells, room, byref(needed))
+            if needed.value <= room:
+                return cells[: needed.value]
+            room = needed.value
 
     def _chars(self, call: Callable[..., int], at: int) -> list[Char]:
         return [_char(cell) for cell in self._cells(call, at)]

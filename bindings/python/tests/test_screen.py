@@ -83,6 +83,23 @@ def test_lines_that_are_changed() -> None:
     assert screen.dirty == {1}
 
 
+def test_sizes() -> None:
+    # (lines and cursors are those that xterm 379 has without saved lines)
+    screen = fed("1\r\n2\r\nabc")
+    screen.resize(2, 2)
+    assert (screen.columns, screen.lines) == (2, 2)
+    assert screen.display == ["2 ", "ab"]
+    assert (screen.cursor.x, screen.cursor.y) == (1, 1)
+    assert ["".join(it.data for it in line) for line in screen.history] == ["1         "]
+    assert screen.dirty == {0, 1}
+    screen.resize(lines=3)
+    assert screen.display == ["2 ", "ab", "  "]
+    screen.resize(columns=1)
+    assert screen.display == ["2", "a", " "]
+    with pytest.raises(ValueError, match="no number"):
+        screen.resize(0, 1)
+
+
 def test_chunks() -> None:
     whole = fed(STREAM)
     assert whole.alternate and whole.cursor.hidden and not whole.reversed

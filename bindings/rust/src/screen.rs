@@ -76,6 +76,19 @@ impl Parser {
         self.refresh()
     }
 
+    /// Gives the screen so many rows and columns, where 0 is as 1, as xterm does without saved
+    /// lines: a row is cut or gets blank cells, and rows go and come at the bottom, but as many
+    /// leave at the top as the row of the cursor needs to stay. Those of the main screen are
+    /// scrolled off.
+    ///
+    /// # Errors
+    ///
+    /// As those of [`process`](Self::process).
+    pub fn set_size(&mut self, rows: u16, cols: u16) -> Result<(), Error> {
+        self.raw.resize(cols, rows)?;
+        self.refresh()
+    }
+
     /// The screen as it is now.
     pub fn screen(&self) -> &Screen {
         &self.screen
@@ -91,7 +104,8 @@ impl Parser {
         self.screen.state.scrolled
     }
 
-    /// The cells of the rows that were scrolled off and are kept, from the oldest on.
+    /// The cells of the rows that were scrolled off and are kept, from the oldest on: of each as
+    /// many as the screen had columns then.
     ///
     /// # Errors
     ///

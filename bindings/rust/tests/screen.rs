@@ -105,6 +105,25 @@ fn scrolled() {
     assert_eq!((rows[0][0].contents(), rows[1][0].contents()), ("b", "c"));
 }
 
+// Rows and cursors are those that xterm 379 has without saved lines.
+#[test]
+fn sizes() {
+    let mut parser = parser(b"1\r\n2\r\nabc");
+    parser.set_size(2, 2).unwrap();
+    assert_eq!(parser.screen().size(), (2, 2));
+    assert_eq!(parser.screen().contents(), "2\nab");
+    assert_eq!(parser.screen().cursor_position(), (1, 1));
+    assert_eq!(parser.scrolled_count(), 1);
+    let rows = parser.scrolled().unwrap();
+    assert_eq!((rows[0][0].contents(), rows[0].len()), ("1", 10));
+    parser.set_size(4, 3).unwrap();
+    assert_eq!(parser.screen().contents(), "2\nab");
+    assert_eq!(parser.screen().cells().count(), 4);
+    parser.set_size(0, 0).unwrap();
+    assert_eq!(parser.screen().size(), (1, 1));
+    assert_eq!(parser.screen().contents(), "a");
+}
+
 #[test]
 fn chunks() {
     let stream =

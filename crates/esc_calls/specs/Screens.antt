@@ -2,7 +2,8 @@
 use Rattle.std.specs.Prelude.{ℕ, ◌≡◌, List, [], Option, None, Some, get_or, is_some, length, map, max}
 use Rattle.std.specs.Global.{Global}
 use Rattle.esc_screen.specs.Grids.{Size}
-use Rattle.esc_terminal.specs.Fed.{HasConsumed, TakesIn, screen_size}
+use Rattle.esc_terminal.specs.Fed.{HasConsumed, Stands, TakesIn, screen_size}
+use Rattle.esc_terminal.specs.Resized.{StandsWith}
 use Rattle.esc_terminal.specs.Rows.{row_text}
 use Rattle.esc_terminal.specs.Streams.{Shown, shown_of}
 use Rattle.esc_calls.specs.CellRows.{cell_row}
@@ -19,6 +20,15 @@ ScreenHasConsumed z s = Keeps screen_in (λ x. HasConsumed {A = Global} z s x.te
 -- it was fed b after s, and has the requests that b makes
 abbrev pub ScreenTakes : Size → List ℕ → List ℕ → InChunks → Type 0
 ScreenTakes z s b = Keeps screen_in (λ x. TakesIn {A = Global} z s b x.terminal)
+
+-- it has begun, is of this size, has read these bytes, and shows this
+abbrev pub ScreenStands : Size → Shown → List ℕ → InChunks → Type 0
+ScreenStands z x s = Keeps screen_in (λ p. Stands {A = Global} z x s p.terminal)
+
+-- it has so many columns and rows then, but at least one
+abbrev pub ScreenStandsWith : Size → Shown → List ℕ → ℕ → ℕ → InChunks → Type 0
+ScreenStandsWith z x s columns rows = Keeps screen_in
+    (λ p. StandsWith {A = Global} z x s (max columns 1) (max rows 1) p.terminal)
 
 -- so many columns and rows, but at least one
 abbrev pub size_for : ℕ → ℕ → Size

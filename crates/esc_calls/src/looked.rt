@@ -39,6 +39,11 @@ impl Looked {
         Ok(())
     }
 
+    /// Forgets them: all rows are changed at the next look.
+    pub(crate) fn forget(&mut self) {
+        self.rows.clear();
+    }
+
     // Returns whether a row has other cells than when it was last looked at. It is looked at now.
     fn take(&mut self, alloc: Global, at: usize, cells: &[Cell]) -> Result<bool, AllocError> {
         if at >= self.rows.len() {

@@ -4,9 +4,10 @@ ghost use Rattle.esc_calls.specs.CellRows.{request_row};
 ghost use Rattle.esc_calls.specs.InChunks.{IsEnded, Stays};
 ghost use Rattle.esc_calls.specs.Kept.{screen_in};
 ghost use Rattle.esc_calls.specs.Output.{Puts};
-ghost use Rattle.esc_calls.specs.Screens.{ScreenHasConsumed, ScreenTakes, Tells, cells_shown, shown_by, size_for, text_shown, title_shown};
+ghost use Rattle.esc_calls.specs.Screens.{ScreenHasConsumed, ScreenStands, ScreenStandsWith, ScreenTakes, Tells, cells_shown, shown_by, size_for, text_shown, title_shown};
 ghost use Rattle.esc_screen.specs.Grids.{Size};
 ghost use Rattle.esc_terminal.specs.Fed.{requests_now};
+ghost use Rattle.esc_terminal.specs.Streams.{Shown};
 ghost use Rattle.fallible_alloc.specs.Refusals.{Refused};
 
 use crate::cell_row::CellRow;
@@ -50,6 +51,23 @@ pub fn screen_feed(alloc: Global, screen: &mut InChunks, bytes: &[u8]) -> u32
         × IsEnded screen.new }
 {
     change_kept!(alloc, screen, Screen(state), state.feed(bytes))
+}
+
+/// Does the work of `escape_stream_screen_resize` of `escape_c`.
+pub fn screen_resize(alloc: Global, screen: &mut InChunks, columns: u16, rows: u16) -> u32
+    ensures resized { (z : Size) (x : Shown) (s : List ℕ) → ScreenStands z x s screen.old
+        → result ≡ DONE → ScreenStandsWith z x s columns rows screen.new }
+    ensures memory { (z : Size) (x : Shown) (s : List ℕ) → ScreenStands z x s screen.old
+        → result ≢ DONE → (result ≡ NO_MEMORY) × Refused Global }
+    ensures refused { result ≢ DONE → (result ≢ NO_MEMORY → result ≡ NOT_BEGUN)
+        × IsEnded screen.new }
+{
+    change_kept!(
+        alloc,
+        screen,
+        Screen(state),
+        state.resize(columns.max(1), rows.max(1))
+    )
 }
 
 /// Does the work of `escape_stream_screen_state_of` of `escape_c`.

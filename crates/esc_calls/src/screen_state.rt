@@ -4,7 +4,8 @@ ghost use Rattle.esc_calls.specs.CellRows.{request_row};
 ghost use Rattle.esc_calls.specs.Output.{Puts};
 ghost use Rattle.esc_calls.specs.Screens.{Tells, cells_shown, shown_by, text_shown, title_shown};
 ghost use Rattle.esc_screen.specs.Grids.{Size};
-ghost use Rattle.esc_terminal.specs.Fed.{HasConsumed, TakesIn, requests_now, screen_size};
+ghost use Rattle.esc_terminal.specs.Fed.{From, HasConsumed, TakesIn, requests_now, screen_size};
+ghost use Rattle.esc_terminal.specs.Resized.{StandsWith};
 ghost use Rattle.fallible_alloc.specs.Refusals.{Refused};
 
 use crate::cell_row::{CellRow, put_cells};
@@ -59,6 +60,22 @@ impl ScreenState {
         let scrolled = mem::replace(&mut self.scrolled, none);
         let (result, scrolled) = self.terminal.feed_into(bytes, scrolled);
         self.scrolled = scrolled;
+        result
+    }
+
+    /// Gives it so many columns and rows; all rows are changed at the next look.
+    ///
+    /// The error is that a request for memory was refused.
+    pub(crate) fn resize(&mut self, columns: u16, rows: u16) -> Result<(), AllocError>
+        ensures resized { From self.old.terminal
+            (λ z x s. OnOk result (StandsWith z x s columns rows self.new.terminal)) }
+        ensures refused { From self.old.terminal (λ z x s. OnErr result (Refused Global)) }
+    {
+        let none = self.scrolled.none();
+        let scrolled = mem::replace(&mut self.scrolled, none);
+        let (result, scrolled) = self.terminal.resize_into(columns, rows, scrolled);
+        self.scrolled = scrolled;
+        self.looked.forget();
         result
     }
 

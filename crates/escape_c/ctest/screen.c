@@ -5,11 +5,12 @@
  *     screen
  *
  * Cells with characters, marks, widths, looks and links, as ECMA-48 and xterm have them; the
- * cursor; titles; requests; rows that are scrolled off and rows that are changed; the same screen
- * for streams in chunks of each size; no byte past the room; each request for memory refused in
- * turn; screens that are not begun, ended twice or begun again. Prints a line for each difference;
- * the status is 1 where there is one. Link it with -Wl,--wrap=malloc,--wrap=realloc,--wrap=free, by
- * which it counts, refuses, and sees that all was given back.
+ * cursor; titles; requests; rows that are scrolled off and rows that are changed; another size; the
+ * same screen for streams in chunks of each size; no byte past the room; each request for memory
+ * refused in turn; screens that are not begun, ended twice or begun again. Prints a line for each
+ * difference; the status is 1 where there is one. Link it with
+ * -Wl,--wrap=malloc,--wrap=realloc,--wrap=free, by which it counts, refuses, and sees that all was
+ * given back.
  */
 #include "escape_stream_screen.h"
 #define PROGRAM "screen"
@@ -304,6 +305,40 @@ static void check_changed(void) {
     escape_stream_screen_end(&screen);
 }
 
+/* Another size: rows and cursors are those that xterm 379 has without saved lines. */
+static void check_resized(void) {
+    struct escape_stream_screen screen = ESCAPE_STREAM_SCREEN_INIT;
+    struct escape_stream_cell cells[COLUMNS + 1];
+    uint8_t changed[ROWS], text[8] = {0};
+    size_t needed;
+    fed(&screen, "1\r\n2\r\nabc");
+    escape_stream_screen_changed(&screen, changed, ROWS);
+    wants(
+        escape_stream_screen_resize(&screen, 2, 2) == ESCAPE_STREAM_DONE, "the status of a size",
+        "", 0);
+    wants(state_of(&screen).columns == 2 && state_of(&screen).rows == 2, "the size", "", 0);
+    wants(
+        state_of(&screen).cursor_row == 1 && state_of(&screen).cursor_column == 1,
+        "the cursor of another size", "", 0);
+    wants(state_of(&screen).scrolled == 1, "a row that leaves", "", 0);
+    escape_stream_screen_text(&screen, 1, text, sizeof text, &needed);
+    wants(needed == 2 && memcmp(text, "ab", 2) == 0, "a row that is cut", "", 0);
+    escape_stream_screen_cells(&screen, 1, cells, COLUMNS + 1, &needed);
+    wants(needed == 2, "the cells of one", "", needed);
+    escape_stream_screen_scrolled(&screen, 0, cells, COLUMNS + 1, &needed);
+    wants(needed == COLUMNS && cells[0].character == '1', "the cells of one that left", "", needed);
+    wants_changed(&screen, "", "11");
+    wants_changed(&screen, "\x1b[1;1H3", "10");
+    wants(
+        escape_stream_screen_resize(&screen, 0, 0) == ESCAPE_STREAM_DONE, "the status of no size",
+        "", 0);
+    wants(state_of(&screen).columns == 1 && state_of(&screen).rows == 1, "the least size", "", 0);
+    escape_stream_screen_end(&screen);
+    wants(
+        escape_stream_screen_resize(&screen, 2, 2) == ESCAPE_STREAM_NOT_BEGUN,
+        "a size of a screen that ended", "", 0);
+}
+
 static const char stream[] =
     "\x1b]0;t\x07" "caf\xc3\xa9 \xe6\x97\xa5\x1b[1;38;2;9;8;7mlook\x1b[m\r\n\x1b]8;;http://a/\x07"
     "link\x1b]8;;\x07\x1b[2;3r\n\n\n\x1b[6n\x1b[r\x1b[3;1H\n\n\x1b[?25l\x1b[2J\x1b[2;4Hend";
@@ -405,6 +440,7 @@ int main(void) {
     check_requests();
     check_scrolled();
     check_changed();
+    check_resized();
     check_chunks();
     check_kinds();
     return differences > 0;

@@ -75,6 +75,15 @@ uint32_t escape_stream_screen_begin(
 uint32_t escape_stream_screen_feed(
     struct escape_stream_screen *screen, const uint8_t *bytes, size_t length);
 
+/*
+ * Gives the screen so many columns and rows, where 0 is as 1, as xterm does without saved lines: a
+ * row is cut or gets blank cells, and rows go and come at the bottom, but as many leave at the top
+ * as the row of the cursor needs to stay. Those of the main screen are scrolled off. There are no
+ * margins and no origin mode then. All rows are changed at the next escape_stream_screen_changed.
+ */
+uint32_t escape_stream_screen_resize(
+    struct escape_stream_screen *screen, uint16_t columns, uint16_t rows);
+
 /* The state of a screen, but for its cells. Rows and columns are counted from 0 on. */
 struct escape_stream_screen_state {
     uint64_t scrolled;      /* how many rows were scrolled off its top in all */
@@ -148,8 +157,9 @@ uint32_t escape_stream_screen_cells(
     size_t *needed);
 
 /*
- * The same of a row that was scrolled off; the first that is kept is 0. Rows of the
- * alternate screen, and those that a part of the screen scrolls by itself below its top, are gone.
+ * The same of a row that was scrolled off, with as many cells as the screen had columns then; the
+ * first that is kept is 0. Rows of the alternate screen, and those that a part of the screen
+ * scrolls by itself below its top, are gone.
  */
 uint32_t escape_stream_screen_scrolled(
     struct escape_stream_screen *screen, size_t row, struct escape_stream_cell *cells, size_t room,

@@ -4,9 +4,10 @@ ghost use Rattle.esc_calls.specs.CellRows.{request_row};
 ghost use Rattle.esc_calls.specs.InChunks.{IsEnded, Stays};
 ghost use Rattle.esc_calls.specs.Kept.{screen_in};
 ghost use Rattle.esc_calls.specs.Output.{Puts};
-ghost use Rattle.esc_calls.specs.Screens.{ScreenHasConsumed, ScreenTakes, Tells, cells_shown, shown_by, size_for, text_shown, title_shown};
+ghost use Rattle.esc_calls.specs.Screens.{ScreenHasConsumed, ScreenStands, ScreenStandsWith, ScreenTakes, Tells, cells_shown, shown_by, size_for, text_shown, title_shown};
 ghost use Rattle.esc_screen.specs.Grids.{Size};
 ghost use Rattle.esc_terminal.specs.Fed.{requests_now};
+ghost use Rattle.esc_terminal.specs.Streams.{Shown};
 ghost use Rattle.fallible_alloc.specs.Refusals.{Refused};
 
 use esc_calls::cell_row::CellRow;
@@ -52,6 +53,24 @@ pub extern "C" fn escape_stream_screen_feed(
         × IsEnded screen.new }
 {
     screen_chunks::screen_feed(alloc, screen, bytes)
+}
+
+/// Gives the screen so many columns and rows, as xterm does; 0 is as 1.
+#[unsafe(no_mangle)]
+pub extern "C" fn escape_stream_screen_resize(
+    alloc: Global,
+    screen: &mut InChunks,
+    columns: u16,
+    rows: u16,
+) -> u32
+    ensures resized { (z : Size) (x : Shown) (s : List ℕ) → ScreenStands z x s screen.old
+        → result ≡ DONE → ScreenStandsWith z x s columns rows screen.new }
+    ensures memory { (z : Size) (x : Shown) (s : List ℕ) → ScreenStands z x s screen.old
+        → result ≢ DONE → (result ≡ NO_MEMORY) × Refused Global }
+    ensures refused { result ≢ DONE → (result ≢ NO_MEMORY → result ≡ NOT_BEGUN)
+        × IsEnded screen.new }
+{
+    screen_chunks::screen_resize(alloc, screen, columns, rows)
 }
 
 /// Writes the state of the screen, but for its cells.

@@ -11,6 +11,7 @@ extern "C" {
         scrollback: usize,
     ) -> u32;
     fn escape_stream_screen_feed(screen: *mut Screen, bytes: *const u8, length: usize) -> u32;
+    fn escape_stream_screen_resize(screen: *mut Screen, columns: u16, rows: u16) -> u32;
     fn escape_stream_screen_state_of(screen: *mut Screen, state: *mut ScreenState) -> u32;
     fn escape_stream_screen_cells(
         screen: *mut Screen,
@@ -157,6 +158,15 @@ impl Screen {
         // SAFETY: as in `begin`. By clause `refused` it has ended after any status but `DONE`.
         said(
             unsafe { escape_stream_screen_feed(self, bytes.as_ptr(), bytes.len()) },
+            (),
+        )
+    }
+
+    /// Gives it so many columns and rows.
+    pub fn resize(&mut self, columns: u16, rows: u16) -> Result<(), Error> {
+        // SAFETY: as in `feed`.
+        said(
+            unsafe { escape_stream_screen_resize(self, columns, rows) },
             (),
         )
     }

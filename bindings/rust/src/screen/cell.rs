@@ -205,12 +205,16 @@ impl fmt::Debug for Cell {
     }
 }
 
-/// The cells of a row, which this call writes and says how many there are.
+/// The cells of a row, which this call writes and says how many there are, mostly so many.
 pub(super) fn read(
     columns: usize,
     mut write: impl FnMut(&mut [RawCell]) -> Result<usize, Error>,
 ) -> Result<Vec<Cell>, Error> {
     let mut room = vec![RawCell::default(); columns];
-    let count = write(&mut room)?.min(columns);
+    let mut count = write(&mut room)?;
+    if count > columns {
+        room.resize(count, RawCell::default());
+        count = write(&mut room)?.min(count);
+    }
     Ok(room[..count].iter().copied().map(Cell::of).collect())
 }
