@@ -1,12 +1,10 @@
 //! Filters recordings of asciinema, line by line.
 
-use crate::named_groups::Choice;
 use crate::options::Options;
-use crate::recording::{Cut, Fault, MEMORY, Recording, TextFilter, write};
-use crate::rows::Rows;
+use crate::recording::{Cut, Fault, MEMORY, Recording, write};
 use asciicast::CastError;
+use esc_filter::StreamFilter;
 use esc_normal::Watched;
-use esc_sanitize::Auditor;
 use memchr::memchr;
 use std::alloc::Global;
 use std::io::Write;
@@ -15,10 +13,11 @@ use std::str;
 // A line has at most this many times the bytes of the limit.
 const TIMES: usize = 16;
 
-/// A filter of a recording of asciinema, which comes in chunks.
+/// A filter of a recording of asciinema, which comes in chunks. `F` filters the stream of its
+/// texts.
 #[derive(Drop)]
-pub struct Lines<'a> {
-    recording: asciicast::Recording<TextFilter<'a>>,
+pub struct Lines<F> {
+    recording: asciicast::Recording<F>,
     // the unfinished line
     line: Vec<u8>,
     // the most bytes of a line
@@ -27,9 +26,9 @@ pub struct Lines<'a> {
     count: u64,
 }
 
-impl<'a> Lines<'a> {
+impl<F: StreamFilter<Global>> Lines<F> {
     /// The beginning of a recording, for a new filter by these options. Takes no memory.
-    pub fn new(alloc: Global, feeding: TextFilter<'a>, options: Options<'_>) -> Lines<'a> {
+    pub fn new(alloc: Global, feeding: F, options: Options<'_>) -> Lines<F> {
         let recording = asciicast::Recording::new(alloc, feeding);
         Lines {
             recording: recording.dropping_input(options.drops_input),
@@ -39,15 +38,15 @@ impl<'a> Lines<'a> {
         }
     }
 
-    /// The account of the whole recording.
-    pub fn into_auditor(self) -> Auditor<Choice<'a>, Rows<'a>> {
+    /// The filter of the whole recording.
+    pub fn into_feeding(self) -> F {
         let Lines {
             recording,
             line: _,
             most: _,
             count: _,
         } = self;
-        recording.into_feeding().into_auditor()
+        recording.into_feeding()
     }
 
     // Adds bytes to the unfinished line.
@@ -90,7 +89,7 @@ impl<'a> Lines<'a> {
     }
 }
 
-impl<'a> Recording for Lines<'a> {
+impl<F: StreamFilter<Global>> Recording for Lines<F> {
     fn take<W: Write>(&mut self, bytes: &[u8], writer: &mut Watched<W>) -> Result<(), Fault> {
         let mut rest = bytes;
         while let Some(at) = memchr(b'\n', rest) {

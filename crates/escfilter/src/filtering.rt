@@ -13,18 +13,19 @@ use crate::json::tell_json;
 use crate::laws::choices_admit_less;
 use crate::listing::{Names, Passage, write_name};
 use crate::named_groups::Choice;
-use crate::options::{Form, Options, Recorded};
+use crate::options::{Form, Format, Options};
 use crate::recording::{Cut, Fault, Recording, filter_recording};
 use crate::report::tell_text;
 use crate::rows::Rows;
 use crate::script::Script;
+use crate::text_filter::TextFilter;
 use crate::told::Told;
 use command_line::{Ended, ErrorCapture, Place, Reason, Work, ended_by, unwritten};
 use esc_account::Account;
 use esc_decode::{ByteOrder, Input};
-use esc_filter::FilterError;
+use esc_filter::{FilterError, StreamFilter};
 use esc_normal::Watched;
-use esc_sanitize::{Auditor, Sanitized, sanitize_stream, sanitizing};
+use esc_sanitize::{Auditor, Sanitized, sanitize_stream};
 use std::alloc::Global;
 use std::io::{Read, Write};
 
@@ -57,14 +58,21 @@ struct Filtered {
     events: Option<Events>,
 }
 
+// The outcome of filtering a recording.
+#[derive(Clone, Copy)]
+struct Outcome {
+    // the place of a cut, or the error, if there was one
+    cut: Result<Option<Cut>, Fault>,
+    // the system's reason for an error
+    reason: Option<Reason>,
+}
+
 impl<'a, W: Write, E: Write> Work for Filtering<'a, W, E> {
     fn take<R: Read + Drop>(&mut self, name: &str, input: R) -> Ended {
         let events = started(self.told.events.take(), name);
         let (ended, is_failure, events) = match self.options.recorded {
-            Recorded::Stream => self.take_stream(name, input, events),
-            Recorded::Cast => self.take_cast(name, input, events),
-            Recorded::Frames => self.take_frames(name, input, events),
-            Recorded::Typescript => self.take_script(name, input, events),
+            None => self.take_stream(name, input, events),
+            Some(format) => self.take_recording(name, format, input, events),
         };
         self.told.events = stopped(events);
         if self.options.is_list && is_failure {
@@ -137,71 +145,79 @@ impl<'a, W: Write, E: Write> Filtering<'a, W, E> {
         }
     }
 
-    // Filters a recording of asciinema, and returns the same as `take_stream`.
-    fn take_cast<R: Read + Drop>(
+    // Filters a recording, and returns the same as `take_stream`.
+    fn take_recording<R: Read + Drop>(
         &mut self,
         name: &str,
+        format: Format,
         input: R,
         events: Option<Events>,
     ) -> (Ended, bool, Option<Events>) {
-        let rows = Rows::new(self.alloc, self.options, events);
-        let feeding = sanitizing(self.alloc, self.options.filter, rows);
+        let feeding = TextFilter::new(self.alloc, self.options, events);
+        let (read, feeding) = match format {
+            Format::Cast => self.read_cast(feeding, input),
+            Format::Frames => self.read_frames(feeding, input),
+            Format::Typescript => self.read_script(feeding, input),
+        };
+        self.end_recording(name, read, feeding.into_auditor())
+    }
+
+    // Filters a recording of asciinema by this filter, and returns the outcome, and the filter.
+    fn read_cast<F: StreamFilter<Global> + Drop, R: Read + Drop>(
+        &mut self,
+        feeding: F,
+        input: R,
+    ) -> (Outcome, F) {
         let mut lines = Lines::new(self.alloc, feeding, self.options);
         let order = self.options.order;
-        let (outcome, reason) = self.read_recording(&mut lines, order, input);
-        self.end_recording(name, outcome, reason, lines.into_auditor())
+        let outcome = self.read_recording(&mut lines, order, input);
+        (outcome, lines.into_feeding())
     }
 
     // Filters a recording of ttyrec, and returns the same.
-    fn take_frames<R: Read + Drop>(
+    fn read_frames<F: StreamFilter<Global> + Drop, R: Read + Drop>(
         &mut self,
-        name: &str,
+        feeding: F,
         input: R,
-        events: Option<Events>,
-    ) -> (Ended, bool, Option<Events>) {
-        let rows = Rows::new(self.alloc, self.options, events);
-        let feeding = sanitizing(self.alloc, self.options.filter, rows);
+    ) -> (Outcome, F) {
         let mut frames = Frames::new(self.alloc, feeding);
-        let (outcome, reason) = self.read_recording(&mut frames, None, input);
-        self.end_recording(name, outcome, reason, frames.into_auditor())
+        let outcome = self.read_recording(&mut frames, None, input);
+        (outcome, frames.into_feeding())
     }
 
     // Filters a typescript, and returns the same.
-    fn take_script<R: Read + Drop>(
+    fn read_script<R: Read + Drop>(
         &mut self,
-        name: &str,
+        feeding: TextFilter<'a>,
         input: R,
-        events: Option<Events>,
-    ) -> (Ended, bool, Option<Events>) {
-        let rows = Rows::new(self.alloc, self.options, events);
-        let feeding = sanitizing(self.alloc, self.options.filter, rows);
+    ) -> (Outcome, TextFilter<'a>) {
         let timing = self.told.timing.take();
         let mut script = Script::new(self.alloc, feeding, self.options.timing, timing);
-        let (outcome, reason) = self.read_recording(&mut script, None, input);
-        let (timing, auditor) = script.into_parts();
+        let outcome = self.read_recording(&mut script, None, input);
+        let (timing, feeding) = script.into_parts();
         self.told.timing = timing;
-        self.end_recording(name, outcome, reason, auditor)
+        (outcome, feeding)
     }
 
-    // Reads a recording to its end. It returns the outcome, and the system's reason for an error.
+    // Reads a recording to its end.
     fn read_recording<T: Recording, R: Read + Drop>(
         &mut self,
         recording: &mut T,
         order: Option<ByteOrder>,
         input: R,
-    ) -> (Result<Option<Cut>, Fault>, Option<Reason>) {
+    ) -> Outcome {
         let input = Input::new(self.alloc, order, input);
         let mut reader = Watched::new(ErrorCapture::new(input));
         let mut writer = Watched::new(ErrorCapture::new(Passage {
             output: &mut *self.output,
             is_open: !self.options.is_list,
         }));
-        let outcome = filter_recording(self.alloc, recording, &mut reader, &mut writer);
+        let cut = filter_recording(self.alloc, recording, &mut reader, &mut writer);
         let reason = reader
             .into_inner()
             .reason()
             .or(writer.into_inner().reason());
-        (outcome, reason)
+        Outcome { cut, reason }
     }
 
     // Reports on a recording of this name, and prints a line on its cut or its error. It returns
@@ -209,16 +225,15 @@ impl<'a, W: Write, E: Write> Filtering<'a, W, E> {
     fn end_recording(
         &mut self,
         name: &str,
-        outcome: Result<Option<Cut>, Fault>,
-        reason: Option<Reason>,
+        read: Outcome,
         auditor: Auditor<Choice<'_>, Rows<'_>>,
     ) -> (Ended, bool, Option<Events>) {
-        let is_failure = self.report(name, &auditor, outcome.is_ok());
-        let place = match outcome {
+        let is_failure = self.report(name, &auditor, read.cut.is_ok());
+        let place = match read.cut {
             Err(fault) if fault.is_of_output() => Place::Output(self.output_name),
             _ => Place::Input(name),
         };
-        let outcome = match outcome {
+        let outcome = match read.cut {
             Ok(Some(cut)) => {
                 command_line::tell(PROGRAM, name, cut, &mut self.faults);
                 Ok(())
@@ -226,7 +241,7 @@ impl<'a, W: Write, E: Write> Filtering<'a, W, E> {
             Ok(None) => Ok(()),
             Err(fault) => Err(fault),
         };
-        let ended = ended_by(PROGRAM, outcome, place, reason, &mut self.faults);
+        let ended = ended_by(PROGRAM, outcome, place, read.reason, &mut self.faults);
         (ended, is_failure, events_of(auditor))
     }
 

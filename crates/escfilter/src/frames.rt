@@ -1,11 +1,8 @@
 //! Filters recordings of ttyrec, frame by frame.
 
-use crate::named_groups::Choice;
-use crate::recording::{Cut, Fault, MEMORY, Recording, TextFilter, write};
-use crate::rows::Rows;
+use crate::recording::{Cut, Fault, MEMORY, Recording, write};
 use esc_filter::StreamFilter;
 use esc_normal::Watched;
-use esc_sanitize::Auditor;
 use std::alloc::Global;
 use std::io::Write;
 
@@ -26,11 +23,12 @@ struct Head {
     length: u32,
 }
 
-/// A filter of a recording of ttyrec, which comes in chunks. The output of each part of a frame is
-/// a frame with the same time, unless it is empty: so a frame may become several.
+/// A filter of a recording of ttyrec, which comes in chunks. `F` filters the stream of its texts.
+/// The output of each part of a frame is a frame with the same time, unless it is empty: so a frame
+/// may become several.
 #[derive(Drop)]
-pub struct Frames<'a> {
-    feeding: TextFilter<'a>,
+pub struct Frames<F> {
+    feeding: F,
     // the unfinished header of a frame
     head: Vec<u8>,
     // the time of the last frame
@@ -42,9 +40,9 @@ pub struct Frames<'a> {
     count: u64,
 }
 
-impl<'a> Frames<'a> {
+impl<F: StreamFilter<Global>> Frames<F> {
     /// The beginning of a recording, for a new filter. Takes no memory.
-    pub fn new(alloc: Global, feeding: TextFilter<'a>) -> Frames<'a> {
+    pub fn new(alloc: Global, feeding: F) -> Frames<F> {
         Frames {
             feeding,
             head: Vec::new(alloc),
@@ -55,8 +53,8 @@ impl<'a> Frames<'a> {
         }
     }
 
-    /// The account of the whole recording.
-    pub fn into_auditor(self) -> Auditor<Choice<'a>, Rows<'a>> {
+    /// The filter of the whole recording.
+    pub fn into_feeding(self) -> F {
         let Frames {
             feeding,
             head: _,
@@ -65,7 +63,7 @@ impl<'a> Frames<'a> {
             left: _,
             count: _,
         } = self;
-        feeding.into_auditor()
+        feeding
     }
 
     // Takes bytes of the header of a frame, and returns their number.
@@ -121,7 +119,7 @@ impl<'a> Frames<'a> {
     }
 }
 
-impl<'a> Recording for Frames<'a> {
+impl<F: StreamFilter<Global>> Recording for Frames<F> {
     fn take<W: Write>(&mut self, bytes: &[u8], writer: &mut Watched<W>) -> Result<(), Fault> {
         let mut rest = bytes;
         for _ in 0..u64::MAX {

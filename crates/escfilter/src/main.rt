@@ -22,6 +22,7 @@ mod rows;
 mod saying;
 mod script;
 mod settings;
+mod text_filter;
 mod timing;
 mod told;
 mod values;

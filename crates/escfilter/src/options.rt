@@ -19,8 +19,8 @@ pub struct Options<'a> {
     pub filter: FilterOptions<Choice<'a>>,
     /// The order of bytes in a stream of UTF-16. The filter gets such a stream as UTF-8.
     pub order: Option<ByteOrder>,
-    /// The kind of the files.
-    pub recorded: Recorded,
+    /// The format of the recordings, if the files are recordings.
+    pub recorded: Option<Format>,
     /// Whether events of input lose their texts.
     pub drops_input: bool,
     /// The timing of a typescript.
@@ -37,14 +37,12 @@ pub struct Options<'a> {
     pub fails: Option<Failing>,
 }
 
-/// The kind of a file.
+/// The format of a recording.
 #[derive(Clone, Copy)]
-pub enum Recorded {
-    /// A stream.
-    Stream,
-    /// A recording of asciinema.
+pub enum Format {
+    /// That of asciinema.
     Cast,
-    /// A recording of ttyrec.
+    /// That of ttyrec.
     Frames,
     /// A typescript of script(1), with its timing.
     Typescript,
@@ -334,7 +332,7 @@ impl<'a> Asked<'a> {
             }
             "--drop-input" => self.drops_input = true,
             "--timing" => {
-                self.settings.recorded = Recorded::Typescript;
+                self.settings.recorded = Some(Format::Typescript);
                 self.timing = Some(given.word);
             }
             "--timing-to" => self.timing_to = Some(given.word),
@@ -380,8 +378,8 @@ impl<'a> Asked<'a> {
             Some(_) if self.settings.is_recording() => Some("--collapse is not for recordings"),
             None if self.settings.columns.is_some() => Some("--columns wants --collapse"),
             _ => match self.settings.recorded {
-                Recorded::Typescript => self.encoding_clash().or(self.timing_clash(files)),
-                Recorded::Frames => self.encoding_clash().or(self.untimed_clash()),
+                Some(Format::Typescript) => self.encoding_clash().or(self.timing_clash(files)),
+                Some(Format::Frames) => self.encoding_clash().or(self.untimed_clash()),
                 _ => self.untimed_clash(),
             },
         }
@@ -399,10 +397,10 @@ impl<'a> Asked<'a> {
     fn untimed_clash(&self) -> Option<&'static str> {
         match (self.timing_to, self.timing, self.settings.recorded) {
             (None, _, _) => None,
-            (_, Some(_), Recorded::Cast) => Some(
-                "--timing-to wants --timing, but --cast follows it",
-            ),
-            (_, Some(_), Recorded::Frames) => {
+            (_, Some(_), Some(Format::Cast)) => {
+                Some("--timing-to wants --timing, but --cast follows it")
+            }
+            (_, Some(_), Some(Format::Frames)) => {
                 Some("--timing-to wants --timing, but --ttyrec follows it")
             }
             _ => Some("--timing-to wants --timing"),
@@ -433,7 +431,7 @@ impl<'a> Asked<'a> {
     // The timing file of a typescript.
     fn timing(&self) -> Option<&'a str> {
         match self.settings.recorded {
-            Recorded::Typescript => self.timing,
+            Some(Format::Typescript) => self.timing,
             _ => None,
         }
     }

@@ -1,18 +1,12 @@
 //! Filters a recording from a reader to the output.
 
-use crate::named_groups::Choice;
-use crate::rows::Rows;
 use dump_time::TimeError;
 use esc_filter::FilterError;
 use esc_normal::Watched;
-use esc_sanitize::Sanitizing;
 use std::alloc::Global;
 use std::fmt;
 use std::fmt::{Display, Formatter};
 use std::io::{Read, Write};
-
-/// The filter of the stream of a recording.
-pub type TextFilter<'a> = Sanitizing<Choice<'a>, Rows<'a>>;
 
 /// A filter of a recording in one format, which comes in chunks.
 pub trait Recording {

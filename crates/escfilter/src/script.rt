@@ -1,14 +1,12 @@
 //! Filters typescripts of script(1) by their timing.
 
 use crate::aside::Aside;
-use crate::named_groups::Choice;
-use crate::recording::{Cut, Fault, MEMORY, Recording, TextFilter, write};
-use crate::rows::Rows;
+use crate::recording::{Cut, Fault, MEMORY, Recording, write};
+use crate::text_filter::TextFilter;
 use command_line::Shown;
 use dump_time::{TimeError, Typescript};
 use esc_filter::{FilterError, StreamFilter};
 use esc_normal::Watched;
-use esc_sanitize::Auditor;
 use memchr::memchr;
 use std::alloc::Global;
 use std::io;
@@ -58,8 +56,8 @@ impl<'a> Script<'a> {
         }
     }
 
-    /// The file of the new timing, and the account of the whole typescript.
-    pub fn into_parts(self) -> (Option<Aside>, Auditor<Choice<'a>, Rows<'a>>) {
+    /// The file of the new timing, and the filter of the whole typescript.
+    pub fn into_parts(self) -> (Option<Aside>, TextFilter<'a>) {
         let Script {
             feeding,
             typescript: _,
@@ -69,7 +67,7 @@ impl<'a> Script<'a> {
             time: _,
             timing,
         } = self;
-        (timing, feeding.into_auditor())
+        (timing, feeding)
     }
 
     // Takes bytes of the first line, and writes the line at its end.

@@ -2,7 +2,7 @@
 ghost use Rattle.std.specs.Prelude.{◌≡◌};
 
 use crate::named_groups::Choice;
-use crate::options::Recorded;
+use crate::options::Format;
 use crate::values::{columns_of, rows_of};
 use caret_notation::Marking;
 use command_line::Given;
@@ -38,8 +38,8 @@ pub struct Settings<'a> {
     pub rows: Option<usize>,
     /// The number of its columns.
     pub columns: Option<usize>,
-    /// The kind of the files.
-    pub recorded: Recorded,
+    /// The format of the recordings, if the files are recordings.
+    pub recorded: Option<Format>,
 }
 
 impl<'a> Settings<'a> {
@@ -58,7 +58,7 @@ impl<'a> Settings<'a> {
             show: None,
             rows: None,
             columns: None,
-            recorded: Recorded::Stream,
+            recorded: None,
         }
     }
 
@@ -78,8 +78,8 @@ impl<'a> Settings<'a> {
             "--show" => self.show = Some(marking_of(given.word)),
             "--collapse" => self.rows = rows_of(given.word),
             "--columns" => self.columns = columns_of(given.word),
-            "--cast" => self.recorded = Recorded::Cast,
-            "--ttyrec" => self.recorded = Recorded::Frames,
+            "--cast" => self.recorded = Some(Format::Cast),
+            "--ttyrec" => self.recorded = Some(Format::Frames),
             _ => {}
         }
     }
@@ -149,7 +149,7 @@ impl<'a> Settings<'a> {
 
     /// Whether the files are recordings.
     pub fn is_recording(self) -> bool {
-        !matches!(self.recorded, Recorded::Stream)
+        self.recorded.is_some()
     }
 
     // The encoding of a stream. The texts of a recording of asciinema are characters already, and
@@ -157,7 +157,7 @@ impl<'a> Settings<'a> {
     fn encoding(self) -> Encoding {
         let obeys = self.obeys || self.show.is_some();
         match self.page {
-            _ if matches!(self.recorded, Recorded::Cast) => Encoding::EightBit,
+            _ if matches!(self.recorded, Some(Format::Cast)) => Encoding::EightBit,
             None if !obeys => Encoding::Utf8,
             page => encoding_of(page, obeys),
         }
