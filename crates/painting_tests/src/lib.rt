@@ -6,3 +6,5 @@
 mod led;
 #[cfg(test)]
 mod painted;
+#[cfg(test)]
+mod shown;
