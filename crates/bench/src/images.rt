@@ -53,17 +53,35 @@ impl Images {
     }
 }
 
-// Returns the number of bytes of the payload, if the image is sent in it.
-fn payload_size(image: &KittyImage) -> usize {
-    match image {
-        KittyImage::TransmitData { transmit, .. }
-        | KittyImage::TransmitDataAndDisplay { transmit, .. }
-        | KittyImage::Query { transmit }
-        | KittyImage::TransmitFrame { transmit, .. } => match &transmit.content {
-            KittyImageData::Direct(text) => text.len(),
+// A value that may have a payload.
+trait Payload: Drop {
+    // Returns the number of its bytes.
+    fn payload_size(&self) -> usize;
+}
+
+impl Payload for KittyImage {
+    // Returns 0 if the image is not sent in it.
+    fn payload_size(&self) -> usize {
+        match self {
+            KittyImage::TransmitData { transmit, .. }
+            | KittyImage::TransmitDataAndDisplay { transmit, .. }
+            | KittyImage::Query { transmit }
+            | KittyImage::TransmitFrame { transmit, .. } => match &transmit.content {
+                KittyImageData::Direct(text) => text.len(),
+                _ => 0,
+            },
             _ => 0,
-        },
-        _ => 0,
+        }
+    }
+}
+
+// Returns the number of bytes of the payload that was read, if there is a value. A value of any
+// type is dropped then, so that no proof goes over the kinds of images.
+fn size_of<T: Payload>(read: Result<Option<T>, AllocError>) -> Result<Option<usize>, AllocError> {
+    match read {
+        Ok(Some(value)) => Ok(Some(value.payload_size())),
+        Ok(None) => Ok(None),
+        Err(error) => Err(error),
     }
 }
 
@@ -165,10 +183,8 @@ impl VTActor for Images {
 
     #[inline]
     fn apc_dispatch(&mut self, text: &[u8]) -> Result<(), AllocError> {
-        match &KittyImage::parse_apc(self.alloc, text) {
-            Ok(Some(image)) => self.add(payload_size(image)),
-            Ok(None) => {}
-            Err(_) => return Err(AllocError),
+        if let Some(size) = size_of(KittyImage::parse_apc(self.alloc, text))? {
+            self.add(size);
         }
         Ok(())
     }

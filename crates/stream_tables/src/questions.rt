@@ -7,11 +7,23 @@ use std::cell::Cell;
 
 // Says how many actions are done with, how many of them the policy was asked of, and whether one
 // came that was not due.
-#[derive(Clone, Copy, PartialEq, Eq)]
+#[derive(Clone, Copy)]
 struct Progress {
     done: usize,
     asked: usize,
     differs: bool,
+}
+
+impl Progress {
+    // Returns the progress after one more action: whether it may come, the policy was asked of it,
+    // and it is done with.
+    fn after(self, may_come: bool, is_asked: bool, is_done: bool) -> Progress {
+        Progress {
+            done: self.done.saturating_add(usize::from(is_done)),
+            asked: self.asked.saturating_add(usize::from(is_asked)),
+            differs: self.differs | !may_come,
+        }
+    }
 }
 
 // Admits all or nothing, and expects each of the actions once, in order.
@@ -24,27 +36,22 @@ struct Expecting<'a> {
 
 impl Expecting<'_> {
     // Notes an action that came: whether it is the one that is due, whether it was asked of, and
-    // whether it is done with.
+    // whether it is done with. If none is due, it has to be about the cursor.
     fn note(&self, action: &Action, is_asked: bool, is_done: bool) {
-        let Progress {
-            done,
-            asked,
-            differs,
-        } = self.progress.get();
-        let Some(due) = self.actions.get(done) else {
-            let differs = differs || !is_of_the_cursor(action);
-            return self.progress.set(Progress {
-                done,
-                asked,
-                differs,
-            });
+        let progress = self.progress.get();
+        let next = match is_item(self.actions, progress.done, action) {
+            Some(is_due) => progress.after(is_due, is_asked, is_done),
+            None => progress.after(is_of_the_cursor(action), false, false),
         };
-        let is_due = due == action;
-        self.progress.set(Progress {
-            done: done.saturating_add(usize::from(is_done)),
-            asked: asked.saturating_add(usize::from(is_asked)),
-            differs: differs || !is_due,
-        });
+        self.progress.set(next);
+    }
+}
+
+// Returns whether an item is the one with this number, if there is one.
+fn is_item<T: PartialEq>(items: &[T], number: usize, item: &T) -> Option<bool> {
+    match items.get(number) {
+        Some(due) => Some(*due == *item),
+        None => None,
     }
 }
 
@@ -87,7 +94,8 @@ pub fn is_asked_once(alloc: Global, stream: &[u8], limit: usize) -> bool {
 fn are_asked_once(alloc: Global, stream: &[u8], limit: usize, actions: &[Action]) -> bool {
     let all = asked_of(alloc, stream, limit, actions, true);
     let none = asked_of(alloc, stream, limit, actions, false);
-    !all.differs & (all.done == actions.len()) & (all == none)
+    let is_done = (all.done == actions.len()) & (none.done == actions.len());
+    is_done & (all.asked == none.asked) & !all.differs & !none.differs
 }
 
 // Returns the actions about which a policy that admits all or nothing is asked.
@@ -111,14 +119,5 @@ fn asked_of(
     let mut reader = Watched::new(stream);
     let mut writer = Watched::new(Vec::new(alloc));
     let ending = filter_stream(alloc, &mut reader, &mut writer, limit, policy);
-    let Progress {
-        done,
-        asked,
-        differs,
-    } = progress.get();
-    Progress {
-        done,
-        asked,
-        differs: differs || ending.is_err(),
-    }
+    progress.get().after(ending.is_ok(), false, false)
 }
