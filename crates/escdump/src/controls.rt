@@ -28,12 +28,15 @@ pub fn add_controls(counts: &[Count], to: &mut Phrase) {
 /// Returns the bytes and the words of the commonest controls, as a line without colours has them
 /// after the place; nothing of any other.
 pub fn known_columns(bytes: &[u8]) -> &'static str {
-    match bytes {
-        b"\n" => "\\x0a                    control LF line feed",
-        b"\r" => "\\x0d                    control CR carriage return",
-        b"\x08" => "\\x08                    control BS backspace",
-        b"\t" => "\\x09                    control HT tab",
-        b"\x07" => "\\x07                    control BEL bell",
+    let [code] = bytes else {
+        return "";
+    };
+    match *code {
+        b'\n' => "\\x0a                    control LF line feed",
+        b'\r' => "\\x0d                    control CR carriage return",
+        0x08 => "\\x08                    control BS backspace",
+        b'\t' => "\\x09                    control HT tab",
+        0x07 => "\\x07                    control BEL bell",
         _ => "",
     }
 }
@@ -54,17 +57,22 @@ pub fn add_control(bytes: &[u8], to: &mut Phrase) {
     }
 }
 
-// Adds a C1 control, 80 to 9F (hexadecimal). Those that no edition of ECMA-48 has come from a draft
-// of ISO/IEC 10646 (RFC 1345).
+// Adds a C1 control, 80 to 9F (hexadecimal).
 fn add_c1(code: u8, to: &mut Phrase) {
+    let (name, words) = c1_words(code);
+    to.begin("control", name, words);
+}
+
+// Returns the name and the words of a C1 control. Those that no edition of ECMA-48 has come from a
+// draft of ISO/IEC 10646 (RFC 1345).
+fn c1_words(code: u8) -> (&'static str, &'static str) {
     match code {
-        0x80 => return to.begin("control", "PAD", "padding character"),
-        0x81 => return to.begin("control", "HOP", "high octet preset"),
-        0x99 => return to.begin("control", "SGC", "single graphic character introducer"),
-        _ => {}
-    }
-    match EscapeFunction::of_c1(code) {
-        Some(function) => to.begin("control", function.name(), function.words()),
-        None => to.begin("control", "", "without a name"),
+        0x80 => ("PAD", "padding character"),
+        0x81 => ("HOP", "high octet preset"),
+        0x99 => ("SGC", "single graphic character introducer"),
+        _ => match EscapeFunction::of_c1(code) {
+            Some(function) => (function.name(), function.words()),
+            None => ("", "without a name"),
+        },
     }
 }

@@ -8,7 +8,7 @@ use crate::key_words::{add_code, add_flags, add_function_key, add_key, add_mouse
 use crate::mode_words::{add_modes, add_private_modes, add_state};
 use crate::named::words_of;
 use crate::renditions::add_renditions;
-use crate::rows::{Row, find_row};
+use crate::rows::{find_row, part_of};
 use control_functions::{ControlFunction, Effect, Parameter, Parameters};
 use dump_page::Phrase;
 use esc_values::CsiParam;
@@ -54,18 +54,31 @@ fn add_by_row(
     params: &[CsiParam],
     to: &mut Phrase,
 ) -> bool {
-    let mut marks = to.empty();
-    let mut text = to.empty();
-    add_marks(params, &mut marks);
-    add_entries_after("", params, &mut text);
+    let (marks, text) = (&mut to.empty(), &mut to.empty());
+    add_marks(params, marks);
+    add_entries_after("", params, text);
+    add_found(table, function, marks, text, to)
+}
+
+// Adds a sequence by the row of these marks and this text of the parameters, and returns whether
+// there is one.
+fn add_found(
+    table: &'static str,
+    function: Option<ControlFunction>,
+    marks: &Phrase,
+    text: &Phrase,
+    to: &mut Phrase,
+) -> bool {
     if marks.is_refused() || text.is_refused() {
         to.refuse();
     }
     let given = Some(text.as_str().as_bytes());
     match find_row(table, marks.as_str().as_bytes(), given) {
         Some((row, rest)) => {
-            begin_row(row, function, to);
-            add_fields(row.fields, not_empty(rest), to);
+            let (words, row) = part_of(row);
+            let (fields, name) = part_of(row);
+            begin_row(words, name, function, to);
+            add_fields(fields, not_empty(rest), to);
             true
         }
         None => false,
@@ -73,17 +86,22 @@ fn add_by_row(
 }
 
 // Adds the name and the words of a row, or of the function, if the row has none.
-fn begin_row(row: Row, function: Option<ControlFunction>, to: &mut Phrase) {
+fn begin_row(
+    words: &'static str,
+    name: &'static str,
+    function: Option<ControlFunction>,
+    to: &mut Phrase,
+) {
     match function {
         Some(function) => {
-            let words = if row.words.is_empty() {
+            let words = if words.is_empty() {
                 function.words()
             } else {
-                row.words
+                words
             };
             to.begin("CSI", function.name(), words);
         }
-        None => to.begin("CSI", row.more, row.words),
+        None => to.begin("CSI", name, words),
     }
 }
 

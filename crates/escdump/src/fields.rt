@@ -59,26 +59,29 @@ enum Kind {
 
 // Returns the kind of this letter.
 fn kind_of(letter: &str) -> Kind {
-    match letter {
-        "n" => Kind::Number,
-        "%" => Kind::Percent,
-        "t" => Kind::Text,
-        "r" => Kind::Rest,
-        "v" => Kind::Value,
-        "q" => Kind::Color,
-        "b" => Kind::Base64,
-        "x" => Kind::Hex,
-        "X" => Kind::HexPair,
-        "p" => Kind::Pairs,
-        "o" => Kind::ColonPairs,
-        "c" => Kind::CommaPairs,
-        "d" => Kind::Length,
-        "f" => Kind::Bits,
-        "m" => Kind::Modifiers,
-        "u" => Kind::Character,
-        "V" => Kind::Variable,
-        "F" => Kind::File,
-        "s" => Kind::Skipped,
+    let [letter] = letter.as_bytes() else {
+        return Kind::None;
+    };
+    match *letter {
+        b'n' => Kind::Number,
+        b'%' => Kind::Percent,
+        b't' => Kind::Text,
+        b'r' => Kind::Rest,
+        b'v' => Kind::Value,
+        b'q' => Kind::Color,
+        b'b' => Kind::Base64,
+        b'x' => Kind::Hex,
+        b'X' => Kind::HexPair,
+        b'p' => Kind::Pairs,
+        b'o' => Kind::ColonPairs,
+        b'c' => Kind::CommaPairs,
+        b'd' => Kind::Length,
+        b'f' => Kind::Bits,
+        b'm' => Kind::Modifiers,
+        b'u' => Kind::Character,
+        b'V' => Kind::Variable,
+        b'F' => Kind::File,
+        b's' => Kind::Skipped,
         _ => Kind::None,
     }
 }

@@ -2,58 +2,34 @@
 
 use crate::values::cut;
 
-/// A row of a table, which is a line with `^` between its parts.
-#[derive(Clone, Copy)]
-pub struct Row {
-    /// The beginning of a text, as [`key_rest`] reads it.
-    pub key: &'static str,
-    /// The description.
-    pub words: &'static str,
-    /// The fields of the rest of the text, as [`add_fields`](crate::fields::add_fields) reads them.
-    pub fields: &'static str,
-    /// The other fields of the row.
-    pub more: &'static str,
-}
-
-// Returns the row of these parts after the first.
-fn row_of(line: &'static str) -> Option<Row> {
-    let (key, rest) = line.split_once('^')?;
-    let (words, rest) = rest.split_once('^')?;
-    let (fields, more) = match rest.split_once('^') {
+/// Returns the part of a row before its first `^`, and the parts after that; all of it and nothing,
+/// if it has one part.
+pub fn part_of(row: &'static str) -> (&'static str, &'static str) {
+    match row.split_once('^') {
         Some(halves) => halves,
-        None => (rest, ""),
-    };
-    Some(Row {
-        key,
-        words,
-        fields,
-        more,
-    })
+        None => (row, ""),
+    }
 }
 
-/// Returns the first row of a table that begins with this and fits a text, and the rest of the text
-/// after its key.
+/// Returns the parts after the key of the first row of a table that begins with this and fits a
+/// text, and the rest of the text after the key. A row is a line: the beginning, the key, as
+/// [`key_rest`] reads it, a description, the fields of the rest of the text, as
+/// [`add_fields`](crate::fields::add_fields) reads them, and a name.
 pub fn find_row<'t>(
     table: &'static str,
     head: &[u8],
     text: Option<&'t [u8]>,
-) -> Option<(Row, Option<&'t [u8]>)> {
+) -> Option<(&'static str, Option<&'t [u8]>)> {
     for line in table.lines() {
-        if let Some(row) = headed(line, head) {
-            if let Some(rest) = key_rest(row.key, text) {
+        let (found, row) = part_of(line);
+        if found.as_bytes() == head {
+            let (key, row) = part_of(row);
+            if let Some(rest) = key_rest(key, text) {
                 return Some((row, rest));
             }
         }
     }
     None
-}
-
-// Returns the row of a line, if it begins with this.
-fn headed(line: &'static str, head: &[u8]) -> Option<Row> {
-    match line.split_once('^') {
-        Some((found, rest)) if found.as_bytes() == head => row_of(rest),
-        _ => None,
-    }
 }
 
 /// Returns the rest of a text after a key, if it begins with that: after a `;` or a `=`, or

@@ -13,6 +13,12 @@ use esc_terminal::Terminal;
 use std::alloc::{AllocError, Global};
 use std::io::{Read, Write};
 
+/// Compares two streams, one after the other.
+pub trait Compare: Work {
+    /// Returns whether they differ.
+    fn differ(&self) -> bool;
+}
+
 /// Compares the screens of two streams, one after the other.
 #[derive(Drop)]
 pub struct Differing<'a, W, E> {
@@ -27,6 +33,12 @@ pub struct Differing<'a, W, E> {
     pub first: Option<Terminal>,
     /// Says whether they differ.
     pub differ: bool,
+}
+
+impl<'a, W: Write, E: Write> Compare for Differing<'a, W, E> {
+    fn differ(&self) -> bool {
+        self.differ
+    }
 }
 
 impl<'a, W: Write, E: Write> Work for Differing<'a, W, E> {

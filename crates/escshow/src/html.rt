@@ -1,6 +1,8 @@
 //! A sheet as HTML.
 
+use crate::kept::unless;
 use esc_html::{HtmlWriter, Layout};
+use fallible_alloc::push_str;
 use std::alloc::{AllocError, Allocator};
 
 /// The beginning of a page. A browser loads nothing for it, and runs nothing.
@@ -21,13 +23,22 @@ const LIMIT: usize = 4096;
 /// memory was refused.
 pub fn html_of<A: Allocator + Copy>(alloc: A, text: &str) -> Result<String<A>, AllocError> {
     let mut writer = HtmlWriter::with_layout(alloc, LIMIT, LAYOUT);
-    let Ok(()) = writer.feed(text.as_bytes()) else {
-        return Err(AllocError);
-    };
     let mut html = String::new(alloc);
-    fallible_alloc::push_str(&mut html, "<pre>\n")?;
-    fallible_alloc::push_str(&mut html, writer.output())?;
-    fallible_alloc::push_str(&mut html, writer.finish())?;
-    fallible_alloc::push_str(&mut html, "</pre>\n")?;
-    Ok(html)
+    let done = push_html(&mut html, text, &mut writer);
+    unless(done, html)
+}
+
+// Appends the HTML of a text by way of this writer, to which nothing came.
+fn push_html<A: Allocator + Copy>(
+    html: &mut String<A>,
+    text: &str,
+    writer: &mut HtmlWriter<A>,
+) -> Result<(), AllocError> {
+    if writer.feed(text.as_bytes()).is_err() {
+        return Err(AllocError);
+    }
+    push_str(html, "<pre>\n")?;
+    push_str(html, writer.output())?;
+    push_str(html, writer.finish())?;
+    push_str(html, "</pre>\n")
 }

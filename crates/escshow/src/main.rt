@@ -21,7 +21,7 @@ use command_line::{
     DONE, FAULT, OUTPUT, USAGE_FAULT, open_closed, program_words, refused, status_of_text,
     unwritable, work_through,
 };
-use differing::Differing;
+use differing::{Compare, Differing};
 use fault::PROGRAM;
 use options::{Kind, Task};
 use showing::Showing;
@@ -148,7 +148,7 @@ const DIFFERENT: u8 = 255;
 
 // Compares two files.
 fn compare<W: Write>(rt: &HostRuntime, task: &Task<'_>, output_name: &str, output: &mut W) -> u8 {
-    let mut differing = Differing {
+    let differing = Differing {
         alloc: rt.alloc(),
         options: task.options,
         output_name,
@@ -157,11 +157,22 @@ fn compare<W: Write>(rt: &HostRuntime, task: &Task<'_>, output_name: &str, outpu
         first: None,
         differ: false,
     };
-    let status = work_through(rt, PROGRAM, &task.files, &mut differing, &mut rt.stderr());
-    if status == DONE && differing.differ {
-        return DIFFERENT;
+    compare_by(rt, task, differing)
+}
+
+// Does the same by this work. A type parameter keeps its terminal out of the proof.
+fn compare_by<C: Compare + Drop>(rt: &HostRuntime, task: &Task<'_>, mut work: C) -> u8 {
+    let status = work_through(rt, PROGRAM, &task.files, &mut work, &mut rt.stderr());
+    different(status, work.differ())
+}
+
+// Returns the result of `compare` by the status of its work.
+fn different(status: u8, differ: bool) -> u8 {
+    if status == DONE && differ {
+        DIFFERENT
+    } else {
+        status
     }
-    status
 }
 
 // Returns the status of the program that compared files, if this is the result of `compare`: 1 if

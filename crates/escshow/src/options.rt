@@ -1,5 +1,6 @@
 //! The task that the program's words ask for.
 
+use crate::kept::unless;
 use command_line::{Found, Given, Known, Takes, Wrong, read};
 use dump_time::micros_in;
 use std::alloc::Global;
@@ -205,6 +206,12 @@ impl Options {
         }
     }
 
+    // Takes --at.
+    fn take_at(&mut self, time: u64) {
+        self.is_cast = true;
+        self.at = Some(time);
+    }
+
     // Takes --every: the lines of a recording come once, and a picture is of one screen.
     fn take_every(&mut self, micros: u64) {
         self.is_cast = true;
@@ -261,60 +268,99 @@ impl<'a> Task<'a> {
             output: None,
             files: found.files,
         };
-        for given in &found.options {
-            task.take(*given)?;
+        let done = task.take_all(&found.options);
+        unless(done, task)
+    }
+
+    // Takes each of these options, and looks whether the files fit them.
+    fn take_all(&mut self, options: &[Given<'a>]) -> Result<(), Wrong<'a>> {
+        for given in options {
+            self.take(*given)?;
         }
-        match task.kind {
-            Kind::Compare => task.with_two_files(),
-            Kind::Show => task.with_one_picture(),
-            Kind::Help | Kind::Version => Ok(task),
+        match self.kind {
+            Kind::Compare => {
+                self.options.take_diff();
+                are_two(&self.files)
+            }
+            Kind::Show if self.options.form == Form::Svg => is_one(&self.files),
+            Kind::Show | Kind::Help | Kind::Version => Ok(()),
         }
     }
 
     // Takes an option.
     fn take(&mut self, given: Given<'a>) -> Result<(), Wrong<'a>> {
-        match given.name {
-            "--size" => self.options.size = Some(size_named(given.word)?),
-            "--log" => self.options.take_log(),
-            "--newline" => self.options.has_new_lines = true,
-            "--color" => self.options.form = Form::Color,
-            "--html" => self.options.form = Form::Html,
-            "--svg" => self.options.take_svg(),
-            "--json" => self.options.take_json(),
-            "--cast" => self.options.is_cast = true,
-            "--at" => {
-                self.options.is_cast = true;
-                self.options.at = Some(time_named(given.word)?);
-            }
-            "--every" => self.options.take_every(stretch_named(given.word)?),
-            "--diff" => self.kind = Kind::Compare,
-            "--output" => self.output = Some(given.word),
-            "--help" => self.kind = Kind::Help,
-            "--version" => self.kind = Kind::Version,
-            _ => {}
+        let options = &mut self.options;
+        match asked_by(given.name) {
+            Asked::Size => options.size = Some(size_named(given.word)?),
+            Asked::Log => options.take_log(),
+            Asked::NewLines => options.has_new_lines = true,
+            Asked::Form(form) => options.form = form,
+            Asked::Svg => options.take_svg(),
+            Asked::Json => options.take_json(),
+            Asked::Cast => options.is_cast = true,
+            Asked::At => options.take_at(time_named(given.word)?),
+            Asked::Every => options.take_every(stretch_named(given.word)?),
+            Asked::Output => self.output = Some(given.word),
+            Asked::Task(kind) => self.kind = kind,
+            Asked::Nothing => {}
         }
         Ok(())
     }
+}
 
-    // Returns the task, unless it asks for pictures of two files: an output is one picture.
-    fn with_one_picture(self) -> Result<Task<'a>, Wrong<'a>> {
-        match self.files.as_slice() {
-            [_, second, ..] if self.options.form == Form::Svg => {
-                Err(Wrong::Value("--svg", "second file", *second, None))
-            }
-            _ => Ok(self),
-        }
+// The thing that an option asks for.
+#[derive(Clone, Copy)]
+enum Asked {
+    Size,
+    Log,
+    NewLines,
+    Form(Form),
+    Svg,
+    Json,
+    Cast,
+    At,
+    Every,
+    Output,
+    Task(Kind),
+    Nothing,
+}
+
+// Returns the thing that the option of this name asks for.
+fn asked_by(name: &str) -> Asked {
+    match name {
+        "--size" => Asked::Size,
+        "--log" => Asked::Log,
+        "--newline" => Asked::NewLines,
+        "--color" => Asked::Form(Form::Color),
+        "--html" => Asked::Form(Form::Html),
+        "--svg" => Asked::Svg,
+        "--json" => Asked::Json,
+        "--cast" => Asked::Cast,
+        "--at" => Asked::At,
+        "--every" => Asked::Every,
+        "--diff" => Asked::Task(Kind::Compare),
+        "--output" => Asked::Output,
+        "--help" => Asked::Task(Kind::Help),
+        "--version" => Asked::Task(Kind::Version),
+        _ => Asked::Nothing,
     }
+}
 
-    // Returns the task, if it has two files.
-    fn with_two_files(mut self) -> Result<Task<'a>, Wrong<'a>> {
-        self.options.take_diff();
-        match self.files.as_slice() {
-            [_, _] => Ok(self),
-            [_, _, third, ..] => Err(Wrong::Value("--diff", "third file", *third, None)),
-            [_] => Err(Wrong::Nothing("--diff", "second file")),
-            [] => Err(Wrong::Nothing("--diff", "first file")),
-        }
+// Returns an error if pictures of two files are asked for: an output is one picture.
+fn is_one<'a>(files: &[&'a str]) -> Result<(), Wrong<'a>> {
+    match files {
+        [_, second, ..] => Err(Wrong::Value("--svg", "second file", *second, None)),
+        _ => Ok(()),
+    }
+}
+
+// Returns an error if these are not two files.
+fn are_two<'a>(files: &[&'a str]) -> Result<(), Wrong<'a>> {
+    match files {
+        [_, _] => Ok(()),
+        [_, _, third, ..] => Err(Wrong::Value("--diff", "third file", *third, None)),
+        [_] => Err(Wrong::Nothing("--diff", "second file")),
+        [] => Err(Wrong::Nothing("--diff", "first file")),
     }
 }
 

@@ -101,41 +101,51 @@ fn is_in_xml(c: char) -> bool {
 
 // Appends the runs of a row.
 fn push_row(svg: &mut String, alloc: Global, view: View<'_>, at: u16) -> Result<(), AllocError> {
-    let mut run: Option<Run> = None;
+    push_runs(svg, view, at, &mut Run::new(alloc))
+}
+
+// Appends the runs of a row by way of this one, to which no cell came.
+fn push_runs(svg: &mut String, view: View<'_>, at: u16, run: &mut Run) -> Result<(), AllocError> {
     let mut column: u32 = 0;
     for cell in view.row(at) {
-        let next = match run {
-            Some(run) if run.goes_on(cell) => run,
-            Some(run) => {
-                run.push(svg, view, at)?;
-                Run::new(alloc, column, cell)
-            }
-            None => Run::new(alloc, column, cell),
-        };
-        run = Some(next.with(cell)?);
+        if !run.goes_on(cell) {
+            run.push(svg, view, at)?;
+            run.begin(column, cell);
+        }
+        run.add_cell(cell)?;
         column = column.saturating_add(1);
     }
-    match run {
-        Some(run) => run.push(svg, view, at),
-        None => Ok(()),
-    }
+    run.push(svg, view, at)
 }
 
 impl Run {
-    // Returns a run that begins with this cell, still without it.
-    fn new(alloc: Global, column: u32, cell: &Cell) -> Run {
+    // Returns a run of no cell.
+    fn new(alloc: Global) -> Run {
         Run {
-            column,
+            column: 0,
             width: 0,
-            number: cell.look,
+            number: 0,
             is_wide: false,
             blanks: 0,
             text: String::new(alloc),
         }
     }
 
+    // Begins anew with this cell, still without it.
+    fn begin(&mut self, column: u32, cell: &Cell) {
+        self.column = column;
+        self.width = 0;
+        self.number = cell.look;
+        self.is_wide = false;
+        self.blanks = 0;
+        self.text.clear();
+    }
+
     // Returns whether this cell is one more of it.
     fn goes_on(&self, cell: &Cell) -> bool {
+        if self.width == 0 {
+            return false;
+        }
         match cell.content {
             Content::Rest => true,
             Content::Wide(_, _) => false,
@@ -143,8 +153,8 @@ impl Run {
         }
     }
 
-    // It with this cell.
-    fn with(mut self, cell: &Cell) -> Result<Run, AllocError> {
+    // Adds this cell.
+    fn add_cell(&mut self, cell: &Cell) -> Result<(), AllocError> {
         self.width = self.width.saturating_add(1);
         match cell.content {
             Content::Blank => self.blanks = self.blanks.saturating_add(1),
@@ -158,7 +168,7 @@ impl Run {
                 self.add(c, marks)?;
             }
         }
-        Ok(self)
+        Ok(())
     }
 
     // Adds spaces for the blank columns.
@@ -183,7 +193,10 @@ impl Run {
     }
 
     // Appends the ground of the run and its characters, where something is seen of them.
-    fn push(mut self, svg: &mut String, view: View<'_>, row: u16) -> Result<(), AllocError> {
+    fn push(&mut self, svg: &mut String, view: View<'_>, row: u16) -> Result<(), AllocError> {
+        if self.width == 0 {
+            return Ok(());
+        }
         let look = view.look_at(self.number);
         let left = MARGIN.saturating_add(self.column.saturating_mul(WIDTH));
         let top = MARGIN.saturating_add(u32::from(row) * HEIGHT);
@@ -195,16 +208,28 @@ impl Run {
         if look.concealed || width == 0 {
             return Ok(());
         }
-        push_str(svg, "<text")?;
-        push_number(svg, " x", left)?;
-        push_number(svg, " y", top.saturating_add(BASE))?;
-        push_number(svg, " textLength", width.saturating_mul(WIDTH))?;
-        push_str(svg, " lengthAdjust=\"spacingAndGlyphs\"")?;
-        push_look(svg, &look)?;
-        push_str(svg, ">")?;
-        push_text(svg, self.text.as_str())?;
-        push_str(svg, "</text>\n")
+        push_characters(svg, &look, left, top, width, self.text.as_str())
     }
+}
+
+// Appends the characters of so many columns.
+fn push_characters(
+    svg: &mut String,
+    look: &Look,
+    left: u32,
+    top: u32,
+    columns: u32,
+    text: &str,
+) -> Result<(), AllocError> {
+    push_str(svg, "<text")?;
+    push_number(svg, " x", left)?;
+    push_number(svg, " y", top.saturating_add(BASE))?;
+    push_number(svg, " textLength", columns.saturating_mul(WIDTH))?;
+    push_str(svg, " lengthAdjust=\"spacingAndGlyphs\"")?;
+    push_look(svg, look)?;
+    push_str(svg, ">")?;
+    push_text(svg, text)?;
+    push_str(svg, "</text>\n")
 }
 
 // Appends the ground of so many columns, if it is not that of the picture.
