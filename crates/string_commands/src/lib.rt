@@ -6,6 +6,7 @@
 #![tactic(auto)]
 
 pub mod begin;
+mod columns;
 pub mod entry;
 mod fits;
 pub mod laws;

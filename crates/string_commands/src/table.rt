@@ -18,9 +18,10 @@
 //! (<https://sw.kovidgoyal.net/kitty/graphics-protocol/>, "Control data reference").
 
 ghost use Rattle.std.specs.Prelude.{◌≡◌, ◌<◌, IfSome, [], get_or, length, map};
-ghost use Rattle.string_commands.specs.Rows.{Finds, IsRow, place_below, place_named, place_of};
+ghost use Rattle.string_commands.specs.Rows.{Finds, IsRow, entry_at, place_below, place_named, place_of};
 
 use crate::begin::Begin;
+use crate::columns::{alone, entries, fields, names, params, said, starts, words};
 use crate::entry::Entry;
 use crate::lookup::{first_fit, first_named};
 use crate::row::Row;
@@ -375,58 +376,68 @@ macro_rules! strings {
 /// Says how many rows there are.
 pub const COUNT: usize = 215;
 
-static ENTRIES: [Entry; COUNT] = strings!(entry);
+pub(crate) static ENTRIES: [Entry; COUNT] = strings!(entry);
 
-static STARTS: [&str; COUNT] = strings!(start);
+pub(crate) static STARTS: [&str; COUNT] = strings!(start);
 
-static NAMES: [&str; COUNT] = strings!(name);
+pub(crate) static NAMES: [&str; COUNT] = strings!(name);
 
-static WORDS: [&str; COUNT] = strings!(words);
+pub(crate) static WORDS: [&str; COUNT] = strings!(words);
 
-static SAID: [&str; COUNT] = strings!(said);
+// `=`: the description.
+pub(crate) static SAID: [&str; COUNT] = strings!(said);
 
-static ALONE: [&str; COUNT] = strings!(alone);
+pub(crate) static ALONE: [&str; COUNT] = strings!(alone);
 
-static PARAMS: [&str; COUNT] = strings!(params);
+pub(crate) static PARAMS: [&str; COUNT] = strings!(params);
 
-static FIELDS: [&str; COUNT] = strings!(fields);
+pub(crate) static FIELDS: [&str; COUNT] = strings!(fields);
 
 // Returns the place of the row of a string.
-#[tactic(auto, unfolding(crate::specs::Rows::place_of, crate::specs::Rows::starts))]
+#[tactic(auto, unfolding(crate::specs::Rows::place_of))]
 pub(crate) fn search(kind: StringKind, key: u32, params: &[i64], text: &[u8]) -> Option<usize>
     ensures place { result ≡ place_of kind key params.now text.now }
     ensures below { IfSome result (λ i. i < COUNT) }
 {
-    first_fit(&ENTRIES, &STARTS, kind, key, params, text)
+    first_fit(entries(), starts(), kind, key, params, text)
 }
 
 // Returns the place of the row of a name.
-#[tactic(auto, unfolding(crate::specs::Rows::place_named, crate::specs::Rows::names))]
+#[tactic(auto, unfolding(crate::specs::Rows::place_named))]
 pub(crate) fn search_names(name: &[u8]) -> Option<usize>
     ensures place { result ≡ place_named name.now }
     ensures below { IfSome result (λ i. i < COUNT) }
 {
-    first_named(&NAMES, name)
+    first_named(names(), name)
 }
 
 // Returns the row in a place.
-#[tactic(auto, unfolding(crate::specs::Rows::names, crate::specs::Rows::words, crate::specs::Rows::starts, crate::specs::Rows::entry_at))]
 pub(crate) fn row_in(place: usize) -> Row
     requires { place < COUNT }
     ensures place { result.place ≡ place }
     ensures row { IsRow result }
 {
+    let words = text_in(words(), place);
     Row {
         place,
-        told: ENTRIES[place],
-        start: text_in(&STARTS, place),
-        name: text_in(&NAMES, place),
-        words: text_in(&WORDS, place),
-        said: text_in(&SAID, place),
-        alone: text_in(&ALONE, place),
-        params: text_in(&PARAMS, place),
-        fields: text_in(&FIELDS, place),
+        told: entry_in(place),
+        start: text_in(starts(), place),
+        name: text_in(names(), place),
+        words,
+        said: said_or(text_in(said(), place), words),
+        alone: text_in(alone(), place),
+        params: text_in(params(), place),
+        fields: text_in(fields(), place),
     }
+}
+
+// Returns the entry in a place.
+#[tactic(auto, unfolding(crate::specs::Rows::entry_at))]
+fn entry_in(place: usize) -> Entry
+    requires { place < COUNT }
+    ensures { result ≡ entry_at place }
+{
+    entries()[place]
 }
 
 // Returns the text in this place of a table.
@@ -435,6 +446,11 @@ fn text_in(texts: &[&'static str], index: usize) -> &'static str
     ensures { result.now ≡ get_or (map (λ t. t.now) texts.now) index [] }
 {
     texts[index]
+}
+
+// Returns the words before a row's parts, which are its description if none are said.
+fn said_or(said: &'static str, words: &'static str) -> &'static str {
+    if said == "=" { words } else { said }
 }
 
 /// Returns the row in this place, from 0 on, if there is one.

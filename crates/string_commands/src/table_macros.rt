@@ -73,7 +73,7 @@ macro_rules! part {
     };
     (said; $kind:ident, $key:expr, $begin:ident, $number:expr, $start:expr, $name:expr,
         $words:expr, $said:tt, $alone:tt, $params:expr, $fields:expr) => {
-        given!($words; $said)
+        given!("="; $said)
     };
     (alone; $kind:ident, $key:expr, $begin:ident, $number:expr, $start:expr, $name:expr,
         $words:expr, $said:tt, $alone:tt, $params:expr, $fields:expr) => {
