@@ -1,4 +1,5 @@
 mod Words
+mod OptionIn
 mod ShownWords
 mod Bits
 mod Units

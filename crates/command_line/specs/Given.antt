@@ -1,5 +1,5 @@
 -- The value that an option is given, and the values that it takes.
-use Rattle.std.specs.Prelude.{ℕ, nat_lt, nat_eq, ◌+◌, ◌/◌, ◌%◌, ◌^◌, ◌==◌, ◌&&◌, ◌||◌, Bool, false, not, if◌then◌else◌, List, [], ◌∷◌, length, bit_or, is_some, Option, Some, None}
+use Rattle.std.specs.Prelude.{ℕ, ◌≡◌, MatchOption, nat_lt, nat_eq, ◌+◌, ◌/◌, ◌%◌, ◌^◌, ◌==◌, ◌&&◌, ◌||◌, Bool, true, false, not, if◌then◌else◌, List, [], ◌∷◌, length, bit_or, is_some, Option, Some, None}
 use denote.Ref.{Bor}
 use Rattle.std.specs.Cmp.Lexicographic.{pointwise}
 use Rattle.std.specs.List.{fold, list_all, slice_split}
@@ -95,3 +95,7 @@ said_option g = (g.name.now, g.word.now, g.size, g.some)
 -- those of an option with this value
 abbrev pub said_by : Known → List ℕ → List ℕ × List ℕ × ℕ × ℕ
 said_by o v = (o.name.now, word_given o.takes v, size_given o.takes v, some_given o.takes v)
+
+-- an option is given exactly if this holds, and then has this name, word, size and bits
+abbrev pub Gives : Bool → List ℕ × List ℕ × ℕ × ℕ → Option Given → Type 0
+Gives holds said r = MatchOption r (holds ≡ false) (λ g. (holds ≡ true) × (said_option g ≡ said))

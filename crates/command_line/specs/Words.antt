@@ -93,6 +93,23 @@ abbrev pub option_joined : List Known → List ℕ → List ℕ → Option (Know
 option_joined [] n w = None
 option_joined (o ∷ os) n w = with_value o (joined_value o n w) (option_joined os n w)
 
+-- the value after `=` in an option's word, if there is one
+abbrev pub value_in : List ℕ → Option (List ℕ)
+value_in w = if has_value w then Some (after_first (λ b. b == 0x3d) w) else None
+
+-- the option that a word has the name or the letter of, with this value; or else the one to whose
+-- letter its value is joined
+abbrev pub option_or : Option Known → Option (List ℕ) → Option (Known × List ℕ)
+    → Option (Known × Option (List ℕ))
+option_or (Some o) v j = Some (o, v)
+option_or None v None = None
+option_or None v (Some j) = Some (j.0, Some j.1)
+
+-- the option that a word names, and the value in the word, if there is one
+abbrev pub option_in : List Known → List ℕ → Option (Known × Option (List ℕ))
+option_in known w =
+    option_or (option_named known (name_in w)) (value_in w) (option_joined known (name_in w) w)
+
 -- the record of an option that is given with this value
 abbrev pub given_of : Option Known → List ℕ → List (List ℕ × List ℕ × ℕ × ℕ)
 given_of None v = []
@@ -153,6 +170,12 @@ right_or None w ws (Some j) = is_value j.0.takes j.1
 abbrev pub is_right : List Known → List ℕ → List (List ℕ) → Bool
 is_right known w ws =
     right_or (option_named known (name_in w)) w ws (option_joined known (name_in w) w)
+
+-- whether a word before these words ends the options, is a file, or names an option and gives it a
+-- value that it takes
+abbrev pub is_next_right : List Known → List ℕ → List (List ℕ) → Bool
+is_next_right known w ws =
+    if ends_options w then true else if is_file w then true else is_right known w ws
 
 -- whether each of these words is a file or a right option; an option takes the first word if that
 -- is said

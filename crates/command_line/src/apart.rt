@@ -16,9 +16,18 @@ pub struct Apart<'a> {
 /// Returns the fault of such a word, if there is one: that it is the name of no file, so that it
 /// was meant for the option.
 pub fn wrong_apart<'a, F: Files>(files: &F, apart: Option<Apart<'a>>) -> Option<Wrong<'a>> {
-    let Apart { option, word } = apart?;
+    match apart {
+        Some(Apart { option, word }) if !is_no_folder(files, word) => {
+            Some(Wrong::Apart(option, word))
+        }
+        _ => None,
+    }
+}
+
+// Returns whether it is the name of a file that is no folder.
+fn is_no_folder<F: Files>(files: &F, word: &str) -> bool {
     match metadata(files, word) {
-        Ok(known) if !known.is_dir() => None,
-        _ => Some(Wrong::Apart(option, word)),
+        Ok(known) => !known.is_dir(),
+        Err(_) => false,
     }
 }

@@ -20,16 +20,50 @@ pub fn program_words<E: Env, A: Allocator + Copy>(
     alloc: A,
 ) -> io::Result<Vec<String<A>, A>> {
     let mut words = Vec::new(alloc);
+    match add_words(env, alloc, &mut words) {
+        Ok(()) => Ok(words),
+        Err(error) => Err(error),
+    }
+}
+
+// Adds the words of a program.
+fn add_words<E: Env, A: Allocator + Copy>(
+    env: &E,
+    alloc: A,
+    words: &mut Vec<String<A>, A>,
+) -> io::Result<()> {
     let mut bytes = Vec::new(alloc);
     bytes.resize(LONGEST, 0)?;
+    add_each(env, alloc, bytes.as_mut_slice(), words)
+}
+
+// Adds them one after another, each by way of these bytes.
+fn add_each<E: Env, A: Allocator + Copy>(
+    env: &E,
+    alloc: A,
+    bytes: &mut [u8],
+    words: &mut Vec<String<A>, A>,
+) -> io::Result<()> {
     for at in 1..usize::MAX {
-        match env.arg(at, bytes.as_mut_slice()) {
-            Ok(n) => words.push(word_of(alloc, bytes.get(..n).unwrap_or(&[]))?)?,
-            Err(FillError::NotPresent) => return Ok(words),
+        match env.arg(at, bytes) {
+            Ok(n) => add_word(alloc, bytes.get(..n).unwrap_or(&[]), words)?,
+            Err(FillError::NotPresent) => return Ok(()),
             Err(FillError::TooLong) => return Err(io::Error::from(ErrorKind::InvalidInput)),
         }
     }
-    Ok(words)
+    Ok(())
+}
+
+// Adds the word of these bytes.
+fn add_word<A: Allocator + Copy>(
+    alloc: A,
+    bytes: &[u8],
+    words: &mut Vec<String<A>, A>,
+) -> Result<(), AllocError> {
+    let mut word = String::new(alloc);
+    push_bytes(&mut word, bytes)?;
+    words.push(word)?;
+    Ok(())
 }
 
 /// Returns whether a word is text: all of its bytes are UTF-8.
@@ -37,15 +71,20 @@ pub fn is_text(word: &str) -> bool {
     !word.contains('\0')
 }
 
-// Returns the word of these bytes.
-fn word_of<A: Allocator + Copy>(alloc: A, bytes: &[u8]) -> Result<String<A>, AllocError> {
-    let mut word = String::new(alloc);
+// Adds these bytes to a word.
+fn push_bytes<A: Allocator>(word: &mut String<A>, bytes: &[u8]) -> Result<(), AllocError> {
     for chunk in bytes.utf8_chunks() {
         word.push_str(chunk.valid())?;
-        for byte in chunk.invalid() {
-            word.push('\0')?;
-            word.push(char::from(*byte))?;
-        }
+        push_invalid(word, chunk.invalid())?;
     }
-    Ok(word)
+    Ok(())
+}
+
+// Adds bytes that are no part of UTF-8 to a word.
+fn push_invalid<A: Allocator>(word: &mut String<A>, bytes: &[u8]) -> Result<(), AllocError> {
+    for byte in bytes {
+        word.push('\0')?;
+        word.push(char::from(*byte))?;
+    }
+    Ok(())
 }

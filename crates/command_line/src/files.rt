@@ -61,19 +61,46 @@ where
     R::File: FileExt,
 {
     if name == "-" {
-        if is_output(rt, metadata(rt, "/dev/stdin")) {
-            return unread(program, INPUT, IS_OUTPUT, faults);
-        }
-        return work.take(INPUT, rt.reader());
+        return take_input(rt, program, work, faults);
     }
     if !is_text(name) {
         return unread(program, name, NO_TEXT, faults);
     }
     match File::open(rt, name) {
-        Ok(input) if is_output(rt, input.metadata()) => unread(program, name, IS_OUTPUT, faults),
-        Ok(input) => take_opened(program, name, input, work, faults),
+        Ok(input) => {
+            let is_output = is_output(rt, input.metadata());
+            take_file(is_output, program, name, input, work, faults)
+        }
         Err(error) => unread(program, name, Reason::of(&error), faults),
     }
+}
+
+// Does it with standard input.
+fn take_input<R: Files + Input, W: Work, E: Write>(
+    rt: &R,
+    program: &str,
+    work: &mut W,
+    faults: &mut E,
+) -> Ended {
+    if is_output(rt, metadata(rt, "/dev/stdin")) {
+        return unread(program, INPUT, IS_OUTPUT, faults);
+    }
+    work.take(INPUT, rt.reader())
+}
+
+// Does it with a file of this name that was opened, unless it is standard output.
+fn take_file<F: Read + OpenFile + FileExt + Drop, W: Work, E: Write>(
+    is_output: bool,
+    program: &str,
+    name: &str,
+    input: F,
+    work: &mut W,
+    faults: &mut E,
+) -> Ended {
+    if is_output {
+        return unread(program, name, IS_OUTPUT, faults);
+    }
+    take_opened(program, name, input, work, faults)
 }
 
 /// Does a program's work with a file of this name that was opened, and returns how that ended. One

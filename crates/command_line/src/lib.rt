@@ -5,6 +5,7 @@
 mod apart;
 mod arguments;
 mod ending;
+mod faults;
 mod files;
 mod nearness;
 mod noting;

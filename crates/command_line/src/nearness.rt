@@ -59,9 +59,6 @@ fn edits(right: &str, wrong: &str) -> usize {
         return FAR - 1;
     }
     let (right, wrong) = without_start(right.as_bytes(), wrong.as_bytes());
-    if right.is_empty() || wrong.is_empty() {
-        return right.len().max(wrong.len());
-    }
     let (right, wrong) = without_end(right, wrong);
     right.len().max(wrong.len())
 }

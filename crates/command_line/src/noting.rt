@@ -1,5 +1,5 @@
 //! Readers and writers that note why a call failed.
-ghost use Rattle.std.specs.Prelude.{◌≢◌, IfErr};
+ghost use Rattle.std.specs.Prelude.{◌≡◌, ◌≢◌, IfErr, IsErr, false, true};
 ghost use Rattle.std.specs.Io.{ReadsAtMost, WritesAtMost};
 ghost use Rattle.std.specs.Io.KnownBytes.{ReadConsumes, WriteAppends};
 ghost use Rattle.std.specs.IoError.{error_kind};
@@ -80,13 +80,9 @@ fn uninterrupted_read<R: Read>(reader: &mut R, buf: &mut [u8]) -> io::Result<usi
     ensures retried { IfErr result (λ e. error_kind e ≢ ErrorKind.Interrupted) }
 {
     for _ in 0..u64::MAX {
-        match reader.read(buf) {
-            Ok(n) => return Ok(n),
-            Err(error) => {
-                if error.kind() != ErrorKind::Interrupted {
-                    return Err(error);
-                }
-            }
+        let outcome = reader.read(buf);
+        if !is_interrupted(&outcome) {
+            return outcome;
         }
     }
     Err(io::Error::from(ErrorKind::TimedOut))
@@ -99,16 +95,23 @@ fn uninterrupted_write<W: Write>(writer: &mut W, buf: &[u8]) -> io::Result<usize
     ensures retried { IfErr result (λ e. error_kind e ≢ ErrorKind.Interrupted) }
 {
     for _ in 0..u64::MAX {
-        match writer.write(buf) {
-            Ok(n) => return Ok(n),
-            Err(error) => {
-                if error.kind() != ErrorKind::Interrupted {
-                    return Err(error);
-                }
-            }
+        let outcome = writer.write(buf);
+        if !is_interrupted(&outcome) {
+            return outcome;
         }
     }
     Err(io::Error::from(ErrorKind::TimedOut))
+}
+
+// Returns whether a call with this outcome was interrupted by a signal.
+fn is_interrupted<V>(outcome: &io::Result<V>) -> bool
+    ensures failed { result ≡ true → IsErr outcome.now }
+    ensures other { result ≡ false → IfErr outcome.now (λ e. error_kind e ≢ ErrorKind.Interrupted) }
+{
+    match outcome {
+        Ok(_) => false,
+        Err(error) => error.kind() == ErrorKind::Interrupted,
+    }
 }
 
 // Notes the reason, if the outcome is an error.

@@ -1,15 +1,17 @@
 //! This module reads a program's options and files from its words.
-ghost use Rattle.std.specs.Prelude.{◌≡◌, ◌≤◌, ◌++◌, ◌∷◌, ℕ, List, [], IfErr, IfOk, MatchResult, drop, false, if◌then◌else◌, length, map, string_bytes, true, ◌<◌};
+ghost use Rattle.std.specs.Prelude.{◌≡◌, ◌≤◌, ◌++◌, ◌∷◌, ◌||◌, ℕ, List, [], IfErr, IfOk, MatchResult, OnOk, drop, false, if◌then◌else◌, length, map, string_bytes, true, ◌<◌};
 ghost use denote.Ref.{Bor};
 ghost use Rattle.std.specs.List.{list_all, list_any};
-ghost use Rattle.command_line.specs.Given.{bit, bits_of, has_bit, is_among, is_one_of, is_place, is_value, parts, place_in, said_option, said_by};
-ghost use Rattle.command_line.specs.Words.{Decides, are_right, files_of, first_of, given_by, is_file, is_right, next_is_right, options_of, takes_next, takes_value};
+ghost use Rattle.std.specs.Option.{option_map};
+ghost use Rattle.command_line.specs.Given.{Gives, bit, bits_of, has_bit, is_among, is_one_of, is_place, is_value, parts, place_in, said_option, said_by};
+ghost use Rattle.command_line.specs.Sizes.{is_size, size_value};
+ghost use Rattle.command_line.specs.Words.{Decides, are_right, ends_options, files_of, first_of, given_by, is_file, is_next_right, is_right, name_in, next_is_right, option_in, options_of, takes_next, takes_value, value_in};
 
-use crate::nearness::{nearest_name, nearest_word};
+use crate::faults::{unknown, without_value, wrong_value};
 use crate::sizes::size_of;
-use crate::table::{Known, Takes, option_joined, option_named};
-use crate::wrong::{A_SIZE, Wrong};
-use std::alloc::{Allocator, Global};
+use crate::table::{Known, Takes, may_take, option_joined, option_named, takes_value};
+use crate::wrong::Wrong;
+use std::alloc::{AllocError, Allocator, Global};
 
 /// The options and the files that a program's words name, each in order.
 #[derive(Drop)]
@@ -85,177 +87,284 @@ fn read_into<'a, A: Allocator + Copy>(
 {
     let mut rest = words;
     while let Some((word, after)) = rest.split_first() {
-        if word.as_str() == "--" {
-            return add_files(&mut found.files, after);
+        match add_next(found, known, word.as_str(), after) {
+            Ok(more) => rest = more,
+            Err(wrong) => return Err(wrong),
         }
-        rest = add_word(found, known, word.as_str(), after)?;
     }
     Ok(())
 }
 
-// Adds the option or the file that a word names, with the words after it that it takes; returns the
-// words after these.
-fn add_word<'a, A: Allocator + Copy>(
+// Adds what a word names, with the words after it that belong to it: an option, a file, or after
+// `--` files. Returns the words after these.
+fn add_next<'a, A: Allocator>(
     found: &mut Found<'a, A>,
     known: &[Known],
     word: &'a str,
     after: &'a [String],
 ) -> Result<&'a [String], Wrong<'a>>
-    ensures shorter { IfOk result (λ rest. length rest.now ≤ length after.now) }
-    ensures file { is_file word.now ≡ true → IfOk result (λ rest. (rest.now ≡ after.now)
+    ensures files { (ends_options word.now ≡ true → IfOk result (λ rest. (rest.now ≡ [])
         × (map (λ f. f.now) found.new.files.items
-        ≡ map (λ f. f.now) found.old.files.items ++ word.now ∷ [])
-        × (found.new.options.items ≡ found.old.options.items)) }
-    ensures option { is_file word.now ≡ false → IfOk result (λ rest.
+        ≡ map (λ f. f.now) found.old.files.items ++ map string_bytes after.now)))
+        × (ends_options word.now ≡ false → is_file word.now ≡ true
+        → IfOk result (λ rest. (rest.now ≡ after.now) × (map (λ f. f.now) found.new.files.items
+        ≡ map (λ f. f.now) found.old.files.items ++ word.now ∷ []))) }
+    ensures option { ends_options word.now ≡ false → is_file word.now ≡ false
+        → IfOk result (λ rest.
         (rest.now ≡ drop (if takes_next known.now word.now then 1 else 0) after.now)
-        × (found.new.files.items ≡ found.old.files.items)
         × (map said_option found.new.options.items ≡ map said_option found.old.options.items
         ++ given_by known.now word.now (map string_bytes after.now))) }
-    ensures right { Decides (if is_file word.now then true
-        else is_right known.now word.now (map string_bytes after.now)) result }
+    ensures kept { (ends_options word.now ≡ false → is_file word.now ≡ false
+        → found.new.files ≡ found.old.files)
+        × (ends_options word.now || is_file word.now ≡ true
+        → found.new.options ≡ found.old.options) }
+    ensures right { IfOk result (λ rest. length rest.now ≤ length after.now)
+        × Decides (is_next_right known.now word.now (map string_bytes after.now)) result }
 {
-    if word == "-" || !word.starts_with('-') {
-        return match found.files.push(word) {
-            Ok(()) => Ok(after),
-            Err(_) => Err(Wrong::Memory),
-        };
+    if ends_options(word) {
+        add_files(&mut found.files, after)
+    } else if is_file(word) {
+        add_file(&mut found.files, word, after)
+    } else {
+        add_option(&mut found.options, known, word, after)
     }
-    let (given, after) = option_of(known, word, after)?;
-    match found.options.push(given) {
+}
+
+// Returns whether all words after this one are files.
+fn ends_options(word: &str) -> bool
+    ensures { result ≡ ends_options word.now }
+{
+    word == "--"
+}
+
+// Returns whether a word is a file by itself.
+fn is_file(word: &str) -> bool
+    ensures { result ≡ is_file word.now }
+{
+    word == "-" || !word.starts_with('-')
+}
+
+// Adds a file, and returns the words after it.
+fn add_file<'a, A: Allocator>(
+    files: &mut Vec<&'a str, A>,
+    word: &'a str,
+    after: &'a [String],
+) -> Result<&'a [String], Wrong<'a>>
+    ensures file { IfOk result (λ rest. (rest.now ≡ after.now) × (map (λ f. f.now) files.new.items
+        ≡ map (λ f. f.now) files.old.items ++ word.now ∷ [])) }
+    ensures memory { IfErr result (λ e. e ≡ Wrong.Memory) }
+{
+    match push(files, word) {
         Ok(()) => Ok(after),
         Err(_) => Err(Wrong::Memory),
     }
 }
 
-// Adds each of these words as a file.
-fn add_files<'a, A: Allocator + Copy>(
+// Adds each of these words as a file, and returns none.
+fn add_files<'a, A: Allocator>(
     files: &mut Vec<&'a str, A>,
     words: &'a [String],
-) -> Result<(), Wrong<'a>>
-    ensures files { IfOk result (λ _. map (λ f. f.now) files.new.items
-        ≡ map (λ f. f.now) files.old.items ++ map string_bytes words.now) }
+) -> Result<&'a [String], Wrong<'a>>
+    ensures files { IfOk result (λ rest. (rest.now ≡ [])
+        × (map (λ f. f.now) files.new.items
+        ≡ map (λ f. f.now) files.old.items ++ map string_bytes words.now)) }
     ensures memory { IfErr result (λ e. e ≡ Wrong.Memory) }
 {
+    match push_files(files, words) {
+        Ok(()) => Ok(&words[words.len()..]),
+        Err(_) => Err(Wrong::Memory),
+    }
+}
+
+// Adds an item to a list.
+fn push<T: Drop, A: Allocator>(list: &mut Vec<T, A>, item: T) -> Result<(), AllocError>
+    ensures { OnOk result (list.new.items ≡ list.old.items ++ item ∷ []) }
+{
+    match list.push(item) {
+        Ok(()) => Ok(()),
+        Err(_) => Err(AllocError),
+    }
+}
+
+// Adds each of these words as a file.
+fn push_files<'a, A: Allocator>(
+    files: &mut Vec<&'a str, A>,
+    words: &'a [String],
+) -> Result<(), AllocError>
+    ensures { OnOk result (map (λ f. f.now) files.new.items
+        ≡ map (λ f. f.now) files.old.items ++ map string_bytes words.now) }
+{
     for word in words {
-        match files.push(word.as_str()) {
-            Ok(()) => {}
-            Err(_) => return Err(Wrong::Memory),
-        }
+        files.push(word.as_str())?;
     }
     Ok(())
 }
 
-// Returns the option that a word names, with the words after it that it takes, and the words after
-// these.
-fn option_of<'a>(
+// Adds the option that a word names, with the word after it if it takes that; returns the words
+// after these.
+fn add_option<'a, A: Allocator>(
+    options: &mut Vec<Given<'a>, A>,
     known: &[Known],
     word: &'a str,
     after: &'a [String],
-) -> Result<(Given<'a>, &'a [String]), Wrong<'a>>
-    ensures shorter { IfOk result (λ x. length x.1.now ≤ length after.now) }
-    ensures rest { IfOk result (λ x.
-        x.1.now ≡ drop (if takes_next known.now word.now then 1 else 0) after.now) }
-    ensures given { IfOk result (λ x. said_option x.0 ∷ []
-        ≡ given_by known.now word.now (map string_bytes after.now)) }
+) -> Result<&'a [String], Wrong<'a>>
+    ensures rest { IfOk result (λ rest.
+        rest.now ≡ drop (if takes_next known.now word.now then 1 else 0) after.now) }
+    ensures given { IfOk result (λ _. map said_option options.new.items
+        ≡ map said_option options.old.items
+        ++ given_by known.now word.now (map string_bytes after.now)) }
     ensures right { Decides (is_right known.now word.now (map string_bytes after.now)) result }
 {
-    let (name, value) = match word.split_once('=') {
+    match option_in(known, word) {
+        Some((option, Some(value))) => add_given(options, option, value, after),
+        Some((option, None)) => add_alone(options, option, after),
+        None => Err(unknown(known, word)),
+    }
+}
+
+// Returns the option that a word names, and the value in the word, if there is one: after `=`, or
+// joined to the option's letter.
+fn option_in<'k, 'a>(known: &'k [Known], word: &'a str) -> Option<(&'k Known, Option<&'a str>)>
+    ensures { option_map (λ x. (x.0.now, option_map (λ v. v.now) x.1)) result
+        ≡ option_in known.now word.now }
+{
+    let (name, value) = name_and_value(word);
+    match option_named(known, name) {
+        Some(option) => Some((option, value)),
+        None => match option_joined(known, name, word) {
+            Some((option, value)) => Some((option, Some(value))),
+            None => None,
+        },
+    }
+}
+
+// Returns the name in an option's word, and the value after `=`, if there is one.
+pub(crate) fn name_and_value<'a>(word: &'a str) -> (&'a str, Option<&'a str>)
+    ensures name { result.0.now ≡ name_in word.now }
+    ensures value { option_map (λ v. v.now) result.1 ≡ value_in word.now }
+{
+    match word.split_once('=') {
         Some((name, value)) => (name, Some(value)),
         None => (word, None),
-    };
-    match (option_named(known, name), value) {
-        (Some(option), Some(value)) => Ok((given_with(option, value)?, after)),
-        (Some(option), None) => given_before(option, after),
-        (None, _) => match option_joined(known, name, word) {
-            Some((option, value)) => Ok((given_with(option, value)?, after)),
-            None => Err(Wrong::Name(name, nearest_name(known, name))),
-        },
     }
 }
 
-// Returns an option with the words after it that it takes, and the words after these.
-fn given_before<'a>(
-    option: Known,
+// Adds an option that has no value in its word, with the word after it if it takes that; returns
+// the words after these.
+fn add_alone<'a, A: Allocator>(
+    options: &mut Vec<Given<'a>, A>,
+    option: &Known,
     after: &'a [String],
-) -> Result<(Given<'a>, &'a [String]), Wrong<'a>>
-    ensures shorter { IfOk result (λ x. length x.1.now ≤ length after.now) }
-    ensures rest { IfOk result (λ x.
-        x.1.now ≡ drop (if takes_value option.takes then 1 else 0) after.now) }
-    ensures given { IfOk result (λ x. said_option x.0 ≡ said_by option
-        (if takes_value option.takes then first_of (map string_bytes after.now) else [])) }
-    ensures right { Decides (next_is_right option (map string_bytes after.now)) result }
+) -> Result<&'a [String], Wrong<'a>>
+    ensures rest { IfOk result (λ rest.
+        rest.now ≡ drop (if takes_value option.now.takes then 1 else 0) after.now) }
+    ensures given { IfOk result (λ _. map said_option options.new.items
+        ≡ map said_option options.old.items ++ said_by option.now
+        (if takes_value option.now.takes then first_of (map string_bytes after.now) else []) ∷ []) }
+    ensures right { Decides (next_is_right option.now (map string_bytes after.now)) result }
 {
-    let called = match option.takes {
-        Takes::Nothing => return Ok((taken(option, "", 0), after)),
-        Takes::Maybe(_, _) | Takes::MaybeSome(_, _) => {
-            return Ok((followed(option, after), after));
+    if takes_value(option) {
+        match after.split_first() {
+            Some((value, after)) => add_given(options, option, value.as_str(), after),
+            None => Err(without_value(option)),
         }
-        Takes::Size => A_SIZE,
-        Takes::OneOf(called, _) | Takes::SomeOf(called, _) => called,
-    };
-    match after.split_first() {
-        Some((value, after)) => Ok((given_with(option, value.as_str())?, after)),
-        None => Err(Wrong::Nothing(option.name, called)),
+    } else {
+        match push(options, given_before(option, after)) {
+            Ok(()) => Ok(after),
+            Err(_) => Err(Wrong::Memory),
+        }
     }
 }
 
-// Returns an option with this value.
-fn given_with<'a>(option: Known, value: &'a str) -> Result<Given<'a>, Wrong<'a>>
-    ensures given { IfOk result (λ g. said_option g ≡ said_by option value.now) }
-    ensures right { Decides (is_value option.takes value.now) result }
+// Adds an option with this value; returns the words after these.
+fn add_given<'a, A: Allocator>(
+    options: &mut Vec<Given<'a>, A>,
+    option: &Known,
+    value: &'a str,
+    after: &'a [String],
+) -> Result<&'a [String], Wrong<'a>>
+    ensures rest { IfOk result (λ rest. rest.now ≡ after.now) }
+    ensures given { IfOk result (λ _. map said_option options.new.items
+        ≡ map said_option options.old.items ++ said_by option.now value.now ∷ []) }
+    ensures right { Decides (is_value option.now.takes value.now) result }
+{
+    match given_with(*option, value) {
+        Some(given) => match push(options, given) {
+            Ok(()) => Ok(after),
+            Err(_) => Err(Wrong::Memory),
+        },
+        None => Err(wrong_value(option, value)),
+    }
+}
+
+// Returns an option with this value, if it takes it.
+fn given_with<'a>(option: Known, value: &'a str) -> Option<Given<'a>>
+    ensures { Gives (is_value option.takes value.now) (said_by option value.now) result }
 {
     match option.takes {
-        Takes::Nothing => Err(Wrong::Something(option.name)),
-        Takes::Size => match size_of(value) {
-            Some(size) => Ok(taken(option, "", size)),
-            None => Err(Wrong::Size(option.name, value)),
-        },
-        Takes::OneOf(called, words) | Takes::Maybe(called, words) => {
-            if is_one_of(words, value) {
-                return Ok(taken(option, value, 0));
-            }
-            let near = nearest_word(words, value);
-            Err(Wrong::Value(option.name, called, value, near))
-        }
-        Takes::SomeOf(called, words) => given_some(option.name, called, words, value),
-        Takes::MaybeSome(called, words) => {
+        Takes::Nothing => None,
+        Takes::Size => given_size(option.name, value),
+        Takes::OneOf(_, words) | Takes::Maybe(_, words) => given_one(option.name, words, value),
+        Takes::SomeOf(_, words) => given_some(option.name, words, value),
+        Takes::MaybeSome(_, words) => {
             if value.is_empty() {
-                return Err(Wrong::Value(option.name, called, value, None));
+                None
+            } else {
+                given_some(option.name, words, value)
             }
-            given_some(option.name, called, words, value)
         }
     }
 }
 
-// Returns an option of this name with some of these words, which are called so.
-fn given_some<'a>(
-    name: &'static str,
-    called: &'static str,
-    words: &'static [&'static str],
-    value: &'a str,
-) -> Result<Given<'a>, Wrong<'a>>
-    ensures given { IfOk result (λ g. said_option g
-        ≡ (name.now, value.now, 0, bits_of words.now (parts value.now))) }
-    ensures right { Decides (list_all (is_among words.now) (parts value.now)) result }
+// Returns an option of this name with a size.
+fn given_size<'a>(name: &'static str, value: &'a str) -> Option<Given<'a>>
+    ensures { Gives (is_size value.now) (name.now, [], size_value value.now, 0) result }
 {
-    match bits_of(words, value) {
-        Ok(some) => Ok(Given {
+    match size_of(value) {
+        Some(size) => Some(Given {
             name,
-            word: value,
-            size: 0,
-            some,
+            word: "",
+            size,
+            some: 0,
             next: "",
         }),
-        Err(part) => {
-            let near = nearest_word(words, part);
-            Err(Wrong::Value(name, called, part, near))
-        }
+        None => None,
+    }
+}
+
+// Returns an option of this name with one of these words, or with any if there are none.
+fn given_one<'a>(
+    name: &'static str,
+    words: &'static [&'static str],
+    value: &'a str,
+) -> Option<Given<'a>>
+    ensures { Gives (is_one_of words.now value.now) (name.now, value.now, 0, 0) result }
+{
+    if is_one_of(words, value) {
+        Some(taken(name, value, 0))
+    } else {
+        None
+    }
+}
+
+// Returns an option of this name with some of these words.
+fn given_some<'a>(
+    name: &'static str,
+    words: &'static [&'static str],
+    value: &'a str,
+) -> Option<Given<'a>>
+    ensures { Gives (list_all (is_among words.now) (parts value.now))
+        (name.now, value.now, 0, bits_of words.now (parts value.now)) result }
+{
+    match bits_of(words, value) {
+        Ok(some) => Some(taken(name, value, some)),
+        Err(_) => None,
     }
 }
 
 // Returns the bits of the words that a text has with `,` between them; or the first that is not one
 // of the list.
-fn bits_of<'a>(words: &[&'static str], text: &'a str) -> Result<u64, &'a str>
+pub(crate) fn bits_of<'a>(words: &[&'static str], text: &'a str) -> Result<u64, &'a str>
     ensures { MatchResult result
         (λ bits. (list_all (is_among words.now) (parts text.now) ≡ true)
         × (bits ≡ bits_of words.now (parts text.now)))
@@ -305,28 +414,39 @@ pub fn bits_are_words()
         ≡ list_any (λ part. is_place i (place_in words part)) given }
 {}
 
-// Returns the option, with a word or a size.
-fn taken<'a>(option: Known, word: &'a str, size: usize) -> Given<'a>
-    ensures { said_option result ≡ (option.name.now, word.now, size, 0) }
+// Returns an option of this name, with a word and the bits of the words in it.
+fn taken<'a>(name: &'static str, word: &'a str, some: u64) -> Given<'a>
+    ensures { said_option result ≡ (name.now, word.now, 0, some) }
 {
     Given {
-        name: option.name,
+        name,
         word,
-        size,
-        some: 0,
+        size: 0,
+        some,
         next: "",
     }
 }
 
-// Returns the option without the value that it may take, before these words.
-fn followed<'a>(option: Known, after: &'a [String]) -> Given<'a>
-    ensures { said_option result ≡ (option.name.now, [], 0, 0) }
+// Returns the option without a value, before these words.
+fn given_before<'a>(option: &Known, after: &'a [String]) -> Given<'a>
+    ensures { said_option result ≡ (option.now.name.now, [], 0, 0) }
 {
-    let mut given = taken(option, "", 0);
-    if let Some(next) = after.first() {
-        given.next = next.as_str();
+    Given {
+        name: option.name,
+        word: "",
+        size: 0,
+        some: 0,
+        next: next_word(option, after),
     }
-    given
+}
+
+// Returns the first of these words, if there is one and the option may take a value; else an empty
+// one.
+fn next_word<'a>(option: &Known, after: &'a [String]) -> &'a str {
+    match after.first() {
+        Some(word) if may_take(option) => word.as_str(),
+        _ => "",
+    }
 }
 
 // Returns whether it is one of these words, or there are none.

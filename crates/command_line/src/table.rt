@@ -1,7 +1,7 @@
 //! The options that a program has.
 ghost use Rattle.std.specs.Prelude.{◌≡◌};
 ghost use Rattle.std.specs.Option.{option_map};
-ghost use Rattle.command_line.specs.Words.{joined_value, lacks_dash, may_take, option_joined, option_named};
+ghost use Rattle.command_line.specs.Words.{is_named, joined_value, lacks_dash, may_take, option_joined, option_named, takes_value};
 
 /// An option that a program has.
 #[derive(Clone, Copy)]
@@ -55,25 +55,37 @@ pub enum Takes {
 }
 
 // Returns the option of this name or letter.
-pub fn option_named(known: &[Known], name: &str) -> Option<Known>
-    ensures { result ≡ option_named known.now name.now }
+pub fn option_named<'k>(known: &'k [Known], name: &str) -> Option<&'k Known>
+    ensures { option_map (λ o. o.now) result ≡ option_named known.now name.now }
 {
     for option in known {
-        if option.name == name || option.letter == name {
-            return Some(*option);
+        if is_named(option, name) {
+            return Some(option);
         }
     }
     None
 }
 
+// Returns whether it is this option's name or letter.
+fn is_named(option: &Known, name: &str) -> bool
+    ensures { result ≡ is_named option.now name.now }
+{
+    option.name == name || option.letter == name
+}
+
 // Returns the first option with a value joined to its letter in this word, which has this name
 // before `=`, and the value.
-pub fn option_joined<'a>(known: &[Known], name: &str, word: &'a str) -> Option<(Known, &'a str)>
-    ensures { option_map (λ x. (x.0, x.1.now)) result ≡ option_joined known.now name.now word.now }
+pub fn option_joined<'k, 'a>(
+    known: &'k [Known],
+    name: &str,
+    word: &'a str,
+) -> Option<(&'k Known, &'a str)>
+    ensures { option_map (λ x. (x.0.now, x.1.now)) result
+        ≡ option_joined known.now name.now word.now }
 {
     for option in known {
         if let Some(value) = joined(option, name, word) {
-            return Some((*option, value));
+            return Some((option, value));
         }
     }
     None
@@ -84,17 +96,27 @@ pub fn option_joined<'a>(known: &[Known], name: &str, word: &'a str) -> Option<(
 fn joined<'a>(option: &Known, name: &str, word: &'a str) -> Option<&'a str>
     ensures { option_map (λ v. v.now) result ≡ joined_value option.now name.now word.now }
 {
-    if !may_take(option.takes) || option.letter.is_empty() || lacks_dash(option, name) {
+    if !may_take(option) || option.letter.is_empty() || lacks_dash(option, name) {
         return None;
     }
     word.strip_prefix(option.letter)
 }
 
-// Returns whether an option takes something, or may take it.
-fn may_take(takes: Takes) -> bool
-    ensures { result ≡ may_take takes }
+// Returns whether an option takes a value, which is the next word if none follows its name.
+pub fn takes_value(option: &Known) -> bool
+    ensures { result ≡ takes_value option.now.takes }
 {
-    match takes {
+    match option.takes {
+        Takes::Size | Takes::OneOf(_, _) | Takes::SomeOf(_, _) => true,
+        Takes::Nothing | Takes::Maybe(_, _) | Takes::MaybeSome(_, _) => false,
+    }
+}
+
+// Returns whether an option takes something, or may take it.
+pub fn may_take(option: &Known) -> bool
+    ensures { result ≡ may_take option.now.takes }
+{
+    match option.takes {
         Takes::Nothing => false,
         Takes::Size | Takes::OneOf(_, _) | Takes::SomeOf(_, _) => true,
         Takes::Maybe(_, _) | Takes::MaybeSome(_, _) => true,

@@ -42,19 +42,14 @@ impl<'a> Display for Wrong<'a> {
         match *self {
             Wrong::Name(name, near) => write_name(name, near, f),
             Wrong::Value(name, called, value, near) => {
-                write_texts(&[name, ": unknown ", called, " \""], f)?;
-                write_value(value, near, f)
+                write_value(&[name, ": unknown ", called, " \""], value, near, f)
             }
             Wrong::Size(name, value) => {
-                write_texts(&[name, " wants a ", A_SIZE, ", and not \""], f)?;
-                write_value(value, None, f)
+                write_value(&[name, " wants a ", A_SIZE, ", and not \""], value, None, f)
             }
             Wrong::Nothing(name, called) => write_texts(&[name, " wants a ", called], f),
             Wrong::Something(name) => write_texts(&[name, " takes no value"], f),
-            Wrong::Apart(name, word) => {
-                let word = Shown(word);
-                write!(f, "{word} is no file, did you mean {name}={word}?")
-            }
+            Wrong::Apart(name, word) => write_apart(name, word, f),
             Wrong::Memory => f.write_str("out of memory"),
         }
     }
@@ -74,17 +69,27 @@ fn write_name<W: fmt::Write>(
     }
 }
 
-// Writes the rest of a value between quotes, and the nearest one.
+// Writes these texts, a value, the quote after it, and the nearest value.
 fn write_value<W: fmt::Write>(
+    before: &[&str],
     value: &str,
     near: Option<&'static str>,
     f: &mut fmt::Formatter<W>,
 ) -> fmt::Result {
+    write_texts(before, f)?;
     Shown(value).fmt(f)?;
     match near {
         Some(near) => write_texts(&["\", did you mean \"", near, "\"?"], f),
         None => f.write_str("\""),
     }
+}
+
+// Writes a word that was meant for the option of this name.
+fn write_apart<W: fmt::Write>(name: &str, word: &str, f: &mut fmt::Formatter<W>) -> fmt::Result {
+    Shown(word).fmt(f)?;
+    write_texts(&[" is no file, did you mean ", name, "="], f)?;
+    Shown(word).fmt(f)?;
+    f.write_str("?")
 }
 
 // Writes each of these texts.

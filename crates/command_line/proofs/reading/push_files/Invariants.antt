@@ -1,5 +1,5 @@
 use Rattle.std.proofs.Common.{◌≡◌, ◌++◌, map, take, string_bytes}
-use Rattle.command_line.proofs.reading.add_files.Given as goal
+use Rattle.command_line.proofs.reading.push_files.Given as goal
 
 -- the words so far are files
 abbrev pub invariant-loop-word : goal.invariant-loop-word
