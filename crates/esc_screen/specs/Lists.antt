@@ -1,5 +1,5 @@
 -- Parts of lists, and what is done several times.
-use Rattle.std.specs.Prelude.{ℕ, zero, suc, ◌+◌, ◌-◌, List, ◌++◌, length, take, drop}
+use Rattle.std.specs.Prelude.{ℕ, zero, suc, ◌-◌, List, ◌++◌, length, take, drop}
 
 -- a list of which the part from one place to before another is changed so
 abbrev pub in_part : {X : Type 0} → ℕ → ℕ → (List X → List X) → List X → List X

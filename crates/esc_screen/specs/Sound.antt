@@ -1,5 +1,5 @@
 -- The invariants of every grid of a screen.
-use Rattle.std.specs.Prelude.{ℕ, ◌+◌, ◌≡◌, ◌<◌, ◌≤◌, List, [], ◌∷◌, ◌++◌, length}
+use Rattle.std.specs.Prelude.{ℕ, ◌≡◌, ◌<◌, ◌≤◌, List, [], ◌∷◌, ◌++◌, length}
 use Rattle.esc_screen.specs.Grids.{Grid, Size, first_grid}
 use Rattle.esc_screen.specs.Steps.{grid_from}
 use Rattle.esc_screen.specs.declared.cell.Cell.{Cell}

@@ -1,6 +1,6 @@
 //! The rows of a screen.
-ghost use Rattle.std.specs.Prelude.{◌≡◌, ◌+◌, ◌<◌, ◌^◌, IfOk, OnErr, drop, map};
-ghost use Rattle.esc_screen.specs.Cells.{cleared_cells, filled_cells, filled_part, shifted_cells};
+ghost use Rattle.std.specs.Prelude.{◌≡◌, ◌+◌, ◌++◌, ◌∷◌, ◌<◌, ◌^◌, [], IfOk, OnErr, OnOk, drop, map, replicate};
+ghost use Rattle.esc_screen.specs.Cells.{blank_row, cleared_cells, filled_cells, filled_part, shifted_cells};
 ghost use Rattle.esc_screen.specs.Lists.{in_part, moved_down, moved_up};
 ghost use Rattle.esc_screen.specs.Resized.{resized_each, resized_rows};
 ghost use Rattle.fallible_alloc.specs.Refusals.{Refused};
@@ -9,6 +9,51 @@ use crate::cell::Cell;
 use crate::row::Row;
 use crate::shift::Shift;
 use std::alloc::{AllocError, Allocator};
+
+/// Returns so many blank rows of so many columns.
+pub(crate) fn blank<A: Allocator + Copy>(
+    alloc: A,
+    count: usize,
+    columns: usize,
+) -> Result<Vec<Row<A>, A>, AllocError>
+    ensures ok { IfOk result (λ v. v.items ≡ replicate count (blank_row 0 columns)) }
+    ensures refused { OnErr result (Refused A) }
+{
+    let mut rows = Vec::new(alloc);
+    push_blank(&mut rows, alloc, count, columns)?;
+    Ok(rows)
+}
+
+// Appends so many blank rows of so many columns.
+fn push_blank<A: Allocator + Copy>(
+    rows: &mut Vec<Row<A>, A>,
+    alloc: A,
+    count: usize,
+    columns: usize,
+) -> Result<(), AllocError>
+    ensures ok { OnOk result
+        (rows.new.items ≡ rows.old.items ++ replicate count (blank_row 0 columns)) }
+    ensures refused { OnErr result (Refused A) }
+{
+    for _ in 0..count {
+        push_blank_row(rows, alloc, columns)?;
+    }
+    Ok(())
+}
+
+// Appends a blank row of so many columns.
+fn push_blank_row<A: Allocator + Copy>(
+    rows: &mut Vec<Row<A>, A>,
+    alloc: A,
+    columns: usize,
+) -> Result<(), AllocError>
+    ensures ok { OnOk result (rows.new.items ≡ rows.old.items ++ blank_row 0 columns ∷ []) }
+    ensures refused { OnErr result (Refused A) }
+{
+    let row = Row::new(alloc, columns)?;
+    fallible_alloc::push(rows, row)?;
+    Ok(())
+}
 
 /// Makes all cells of rows this one.
 pub(crate) fn fill<A: Allocator>(rows: &mut [Row<A>], cell: Cell)
@@ -175,10 +220,7 @@ fn resized<A: Allocator + Copy>(
 {
     let kept = count.min(rows.len());
     let mut all = resized_each(&rows[..kept], alloc, columns)?;
-    for _ in 0..count.saturating_sub(rows.len()) {
-        let row = Row::new(alloc, columns)?;
-        fallible_alloc::push(&mut all, row)?;
-    }
+    push_blank(&mut all, alloc, count.saturating_sub(rows.len()), columns)?;
     Ok(all)
 }
 

@@ -54,14 +54,8 @@ impl<A: Allocator + Copy> Screen<A> {
         ensures returns { IfOk result (λ p. p.returns ≡ false) }
         ensures refused { OnErr result (Refused A) }
     {
-        let mut rows = Vec::new(alloc);
-        let mut other = Vec::new(alloc);
-        for _ in 0..max_rows {
-            let row = Row::new(alloc, max_columns as usize)?;
-            fallible_alloc::push(&mut rows, row)?;
-            let row = Row::new(alloc, max_columns as usize)?;
-            fallible_alloc::push(&mut other, row)?;
-        }
+        let rows = rows::blank(alloc, max_rows as usize, max_columns as usize)?;
+        let other = rows::blank(alloc, max_rows as usize, max_columns as usize)?;
         let tabs = tabs::eighths(alloc, max_columns as usize)?;
         Ok(Screen {
             rows,
