@@ -7,6 +7,7 @@ ghost use Rattle.esc_html.specs.Marks.{lead_by, lead_to};
 ghost use Rattle.fallible_alloc.specs.Refusals.{Refused};
 
 use crate::address::{LONGEST_ADDRESS, address_of, are_address_chars, has_safe_scheme};
+use crate::passing::pass;
 use esc_osc::OperatingSystemCommand;
 use esc_values::scalar::{text_in, text_of};
 use esc_values::{Items, Text};
@@ -24,7 +25,10 @@ pub(crate) fn lead_by<A: Allocator>(
     match command {
         OperatingSystemCommand::SetHyperlink(link) => Ok(Some(address_of(link))),
         OperatingSystemCommand::Unspecified(parts) => lead_of(parts),
-        _ => Ok(None),
+        other => {
+            pass(other);
+            Ok(None)
+        }
     }
 }
 

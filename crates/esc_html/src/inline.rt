@@ -5,6 +5,7 @@ ghost use Rattle.esc_html.specs.PageParts.{page_part_text, span};
 ghost use Rattle.esc_style.specs.Looks.{seen_foreground, shown_background};
 ghost use Rattle.fallible_alloc.specs.Refusals.{Refused};
 
+use crate::pair::push_pair;
 use crate::shades::{ansi_rgb, around_rgb, text_rgb};
 use crate::tag::push_style;
 use esc_sequences::Underline;
@@ -33,8 +34,7 @@ pub(crate) fn push_inline_span<A: Allocator>(
     fallible_alloc::push_str(html, "<span style=\"")?;
     push_keywords(html, look)?;
     push_colors(html, look)?;
-    fallible_alloc::push_str(html, "\">")?;
-    Ok(())
+    fallible_alloc::push_str(html, "\">")
 }
 
 // The declarations with keywords.
@@ -44,14 +44,12 @@ fn push_keywords<A: Allocator>(html: &mut String<A>, look: &Look) -> Result<(), 
     ensures refused { OnErr result (Refused A) }
 {
     let underlined = is_underlined(look.underline);
-    fallible_alloc::push_str(html, weight(look.bold, look.faint))?;
-    fallible_alloc::push_str(html, slant(look.italic))?;
-    fallible_alloc::push_str(
+    push_pair(html, weight(look.bold, look.faint), slant(look.italic))?;
+    push_pair(
         html,
         lines(underlined, look.strikethrough, look.overline, look.blink),
-    )?;
-    fallible_alloc::push_str(html, kind(look.underline))?;
-    Ok(())
+        kind(look.underline),
+    )
 }
 
 // The declarations of colours.
@@ -62,8 +60,7 @@ fn push_colors<A: Allocator>(html: &mut String<A>, look: &Look) -> Result<(), Al
 {
     push_declared(html, foreground(look))?;
     push_declared(html, background(look))?;
-    push_declared(html, decoration(look.underline_color))?;
-    Ok(())
+    push_declared(html, decoration(look.underline_color))
 }
 
 // Appends the declaration of a colour.
@@ -73,10 +70,7 @@ fn push_declared<A: Allocator>(html: &mut String<A>, declared: Declared) -> Resu
     ensures refused { OnErr result (Refused A) }
 {
     match declared {
-        Declared::Keyword(text) => {
-            fallible_alloc::push_str(html, text)?;
-            Ok(())
-        }
+        Declared::Keyword(text) => fallible_alloc::push_str(html, text),
         Declared::Numbers(style) => push_style(html, false, &style),
     }
 }

@@ -34,6 +34,8 @@ mod markup;
 mod page;
 mod page_look;
 mod page_tags;
+mod pair;
+mod passing;
 mod plain;
 mod renditions;
 mod shades;

@@ -1,8 +1,10 @@
 //! The lines of a page as elements.
 ghost use Rattle.std.specs.Prelude.{◌≡◌, ◌++◌, [], codes, false, OnErr, OnOk, string_bytes, true};
+ghost use Rattle.std.specs.Fmt.{decimal};
 ghost use Rattle.esc_html.specs.Lines.{begin_unless, line_begin, next_number, open_by, with_part};
 ghost use Rattle.fallible_alloc.specs.Refusals.{Refused};
 
+use crate::pair::push_pair;
 use memchr::memchr;
 use std::alloc::{AllocError, Allocator, Global};
 
@@ -88,8 +90,7 @@ impl<A: Allocator> LineWriter<A> {
         ensures refused { OnErr result (Refused A) }
     {
         self.begin()?;
-        fallible_alloc::push_str(&mut self.text, part)?;
-        fallible_alloc::push_str(&mut self.text, "\n</span>")?;
+        push_pair(&mut self.text, part, "\n</span>")?;
         self.number = self.number.saturating_add(1);
         self.is_open = false;
         Ok(())
@@ -133,9 +134,21 @@ fn push_begin<A: Allocator>(text: &mut String<A>, number: u64) -> Result<(), All
         ≡ string_bytes text.old ++ line_begin number) }
     ensures refused { OnErr result (Refused A) }
 {
-    fallible_alloc::push_str(text, "<span class=\"es-line\" id=\"L")?;
-    fallible_alloc::push_display(text, &number)?;
-    fallible_alloc::push_str(text, "\"><a href=\"#L")?;
-    fallible_alloc::push_display(text, &number)?;
+    push_number(text, "<span class=\"es-line\" id=\"L", number)?;
+    push_number(text, "\"><a href=\"#L", number)?;
     fallible_alloc::push_str(text, "\" tabindex=\"-1\" aria-hidden=\"true\"></a>")
+}
+
+// Appends a text, and this number after it.
+fn push_number<A: Allocator>(
+    text: &mut String<A>,
+    before: &str,
+    number: u64,
+) -> Result<(), AllocError>
+    ensures ok { OnOk result (string_bytes text.new
+        ≡ string_bytes text.old ++ (before.now ++ decimal number)) }
+    ensures refused { OnErr result (Refused A) }
+{
+    fallible_alloc::push_str(text, before)?;
+    fallible_alloc::push_display(text, &number)
 }

@@ -22,6 +22,7 @@ use crate::character::{are_characters, as_str, shown_as};
 use crate::layout::Layout;
 use crate::markup::Markup;
 use crate::page_look::PageLook;
+use crate::passing::pass;
 use crate::renditions::{Common, common_rendition, function_of, lone_rendition, rendition_of};
 use crate::tags::Tags;
 use esc_actions::Action;
@@ -320,11 +321,10 @@ impl<A: Allocator> Sink<Action<A>> for Page<A> {
             Action::Esc(esc) => self.take_escape(esc),
             Action::CSI(csi) => self.take_function(Function::of(&csi)),
             Action::OperatingSystemCommand(command) => self.take_command(command.into_inner()),
-            Action::PrintString(_)
-            | Action::KittyImage(_)
-            | Action::Sixel(_)
-            | Action::XtGetTcap(_) => Ok(()),
-            Action::DeviceControl(_) => Ok(()),
+            other => {
+                pass(other);
+                Ok(())
+            }
         }
     }
 

@@ -9,6 +9,7 @@ ghost use Rattle.esc_style.specs.Looks.{values_of};
 ghost use Rattle.esc_html.specs.PageParts.{attributes_text, class_attribute, page_part_text, span, style_attribute};
 ghost use Rattle.fallible_alloc.specs.Refusals.{Refused};
 
+use crate::pair::push_pair;
 use esc_style::{Class, Look, Style};
 use std::alloc::{AllocError, Allocator};
 use std::str;
@@ -59,8 +60,7 @@ fn push_next_class<A: Allocator>(
     let Some(class) = class else {
         return Ok(is_first);
     };
-    fallible_alloc::push_str(html, class_opener(is_first))?;
-    fallible_alloc::push_str(html, class.name())?;
+    push_pair(html, class_opener(is_first), class.name())?;
     push_index(html, class.index())?;
     Ok(false)
 }
@@ -147,8 +147,7 @@ pub(crate) fn push_style<A: Allocator>(
     ensures grown { Grows (string_bytes html.old) (string_bytes html.new) }
     ensures refused { OnErr result (Refused A) }
 {
-    fallible_alloc::push_str(html, style_opener(is_first))?;
-    fallible_alloc::push_str(html, style.property())?;
+    push_pair(html, style_opener(is_first), style.property())?;
     let code = style.code();
     fallible_alloc::push_str(html, as_str(&code))
 }

@@ -150,16 +150,14 @@ at_end first s t x w z (h, e) text is =
 
 -- ---- the beginning of a line
 
-pub begun_text : (old one two three four a d b c : List ℕ) → one ≡ old ++ a → two ≡ one ++ d
-    → three ≡ two ++ b → four ≡ three ++ d
-    → four ++ c ≡ old ++ (a ++ (d ++ (b ++ (d ++ c))))
-begun_text old one two three four a d b c e1 e2 e3 e4 =
-    ap (λ x. x ++ c) (e4 ∙ ap (λ x. x ++ d) (e3 ∙ ap (λ x. x ++ b)
-    (e2 ∙ ap (λ x. x ++ d) e1)))
-    ∙ append_assoc (((old ++ a) ++ d) ++ b) d c
-    ∙ append_assoc ((old ++ a) ++ d) b (d ++ c)
-    ∙ append_assoc (old ++ a) d (b ++ (d ++ c))
-    ∙ append_assoc old a (d ++ (b ++ (d ++ c)))
+pub begun_text : (old one two a d b c : List ℕ) → one ≡ old ++ (a ++ d) → two ≡ one ++ (b ++ d)
+    → two ++ c ≡ old ++ (a ++ (d ++ (b ++ (d ++ c))))
+begun_text old one two a d b c e1 e2 =
+    ap (λ x. x ++ c) (e2 ∙ ap (λ x. x ++ (b ++ d)) e1)
+    ∙ append_assoc (old ++ (a ++ d)) (b ++ d) c
+    ∙ ap (λ x. (old ++ (a ++ d)) ++ x) (append_assoc b d c)
+    ∙ append_assoc old (a ++ d) (b ++ (d ++ c))
+    ∙ ap (λ x. old ++ x) (append_assoc a d (b ++ (d ++ c)))
 
 pub number_text : (n : ℕ) → n < 2 ^ 64 → decimal n ≡ numeral n
 number_text n h =

@@ -140,6 +140,13 @@ four_added old one two three new a b c d i j k l =
     ∙ append_assoc old (a ++ (b ++ c)) d
     ∙ ap (λ x. old ++ x) (append_assoc a (b ++ c) d ∙ ap (λ x. a ++ x) (append_assoc b c d))
 
+-- texts that are added in pairs
+pub pairs_added : (old one a b c d p q r s : List ℕ) → one ≡ old ++ (a ++ b) → a ≡ p → b ≡ q
+    → c ≡ r → d ≡ s → one ++ (c ++ d) ≡ old ++ (p ++ (q ++ (r ++ s)))
+pairs_added old one a b c d p q r s i j k l m =
+    rw (i, j, k, l, m)
+    (append_assoc old (p ++ q) (r ++ s) ∙ ap (λ x. old ++ x) (append_assoc p q (r ++ s)))
+
 -- a span whose attribute is of these two parts
 pub inline_joined : (old one two three new a b : List ℕ) → one ≡ old ++ codes "<span style=\""
     → two ≡ one ++ a → three ≡ two ++ b → new ≡ three ++ codes "\">"

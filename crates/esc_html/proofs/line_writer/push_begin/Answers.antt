@@ -12,12 +12,10 @@ returns-clause-ok g c =
     let a = codes "<span class=\"es-line\" id=\"L" in
     let b = codes "\"><a href=\"#L" in
     let last = codes "\" tabindex=\"-1\" aria-hidden=\"true\"></a>" in
-    let four = string_bytes c.push_display-2.new.text in
-    grown_ok c.push_str-3.result four (string_bytes c.push_str-3.new.text) last
-    (old ++ line_begin c.args.number) c.push_str-3.ensures.bytes
-    (begun_text old (string_bytes c.push_str.new.text) (string_bytes c.push_display.new.text)
-    (string_bytes c.push_str-2.new.text) four a d b last c.in_ok-push_str.ensures.bytes
-    c.in_ok-push_display.ensures.text c.in_ok-push_str-2.ensures.bytes
-    c.in_ok-push_display-2.ensures.text
+    let two = string_bytes c.push_number-2.new.text in
+    grown_ok c.push_str.result two (string_bytes c.push_str.new.text) last
+    (old ++ line_begin c.args.number) c.push_str.ensures.bytes
+    (begun_text old (string_bytes c.push_number.new.text) two a d b last
+    c.in_ok-push_number.ensures.ok c.in_ok-push_number-2.ensures.ok
     ∙ ap (λ x. old ++ (a ++ (x ++ (b ++ (x ++ last)))))
     (number_text c.args.number c.ranges.number.fits))
