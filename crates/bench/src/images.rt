@@ -85,6 +85,36 @@ fn size_of<T: Payload>(read: Result<Option<T>, AllocError>) -> Result<Option<usi
     }
 }
 
+// Returns how much a string holds that is at its end, if it is of a known kind.
+fn held(open: Open) -> Result<Option<usize>, AllocError> {
+    match open {
+        Open::Nothing => Ok(None),
+        Open::Sixel(builder) => chunks_of(builder),
+        Open::Query(builder) => names_of(builder),
+    }
+}
+
+fn chunks_of(mut builder: SixelBuilder) -> Result<Option<usize>, AllocError> {
+    let ended = builder.finish();
+    let count = builder.sixel.content.len();
+    counted_if(ended, count)
+}
+
+fn names_of(builder: GetTcapBuilder) -> Result<Option<usize>, AllocError> {
+    match builder.finish() {
+        Ok(names) => Ok(Some(names.len())),
+        Err(error) => Err(error),
+    }
+}
+
+// Returns this number, unless memory was refused.
+fn counted_if(ended: Result<(), AllocError>, count: usize) -> Result<Option<usize>, AllocError> {
+    match ended {
+        Ok(()) => Ok(Some(count)),
+        Err(error) => Err(error),
+    }
+}
+
 impl VTActor for Images {
     ghost takes = { λ _ _ _. Unit {0} };
 
@@ -140,17 +170,8 @@ impl VTActor for Images {
 
     #[inline]
     fn dcs_unhook(&mut self) -> Result<(), AllocError> {
-        match mem::replace(&mut self.open, Open::Nothing) {
-            Open::Nothing => {}
-            Open::Sixel(builder) => {
-                let mut builder = builder;
-                builder.finish()?;
-                self.add(builder.sixel.content.len());
-            }
-            Open::Query(builder) => {
-                let names = builder.finish()?;
-                self.add(names.len());
-            }
+        if let Some(size) = held(mem::replace(&mut self.open, Open::Nothing))? {
+            self.add(size);
         }
         Ok(())
     }
