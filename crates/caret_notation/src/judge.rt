@@ -3,8 +3,9 @@ ghost use Rattle.std.specs.Prelude.{◌≡◌, ◌&&◌, ◌++◌, ◌<◌, ◌�
 ghost use Rattle.esc_actions.specs.Values.{plain, value_of};
 ghost use Rattle.esc_frame.specs.Stream.{IsQuietWithin, HasConsumedWithin};
 ghost use Rattle.esc_parse.specs.Fed.{Hooks};
-ghost use Rattle.caret_notation.specs.Judged.{HasJudged, HasJudgedSome, begun, verdict_with, noted_verdict};
-ghost use Rattle.caret_notation.specs.Revealed.{are_kept};
+ghost use Rattle.caret_notation.specs.Judged.{HasJudged, HasJudgedSome, IsQuietTo, begun, verdict_with, noted_verdict};
+ghost use Rattle.caret_notation.specs.Revealed.{are_kept, goes_through};
+ghost use Rattle.esc_filter.specs.Passing.{passes};
 ghost use Rattle.esc_normal.specs.Normalising.{normal_form};
 ghost use Rattle.caret_notation.specs.Spelled.{is_spelled};
 ghost use Rattle.esc_actions.specs.Meaning.{meaning_within};
@@ -84,16 +85,7 @@ impl<'p, P: Admit<A>, A: Allocator> Sink<Action<A>> for Judge<'p, P> {
     ghost refuses = { λ _ _ _. ⊥ };
 
     fn receive(&mut self, action: Action<A>) -> Result<(), AllocError> {
-        let goes = if action.is_terminator() {
-            self.verdict.follows
-        } else {
-            passes(self.policy, &action)
-        };
-        self.verdict = Verdict {
-            some: true,
-            all: self.verdict.all && goes,
-            follows: action.is_string(),
-        };
+        self.verdict = verdict_with(self.policy, self.verdict, action);
         Ok(())
     }
 
@@ -123,8 +115,28 @@ impl<'p, P: Admit<A>, A: Allocator> Sink<Action<A>> for Judge<'p, P> {
         Ok(true)
     }
 
-    // The next methods are as by default, and written out: at the type of an action, a method that
-    // is taken over from the trait costs a proof some seconds more.
+    // The next methods do as by default, and are written out: at the type of an action, a method
+    // that is taken over from the trait costs a proof some seconds more.
+    #[inline]
+    fn receive_text(&mut self, text: &[u8]) -> Result<(), AllocError> {
+        for b in text {
+            self.verdict = verdict_with::<_, A>(
+                self.policy,
+                self.verdict,
+                Action::Print(*b as char),
+            );
+        }
+        Ok(())
+    }
+
+    #[inline]
+    fn receive_str(&mut self, text: &str) -> Result<(), AllocError> {
+        for c in text.chars() {
+            self.verdict = verdict_with::<_, A>(self.policy, self.verdict, Action::Print(c));
+        }
+        Ok(())
+    }
+
     #[inline]
     fn drops_sequences(&self, _control: u8) -> bool {
         false
@@ -134,6 +146,38 @@ impl<'p, P: Admit<A>, A: Allocator> Sink<Action<A>> for Judge<'p, P> {
     fn drops_images(&self) -> bool {
         false
     }
+}
+
+// Returns the verdict with one action more.
+fn verdict_with<P: Admit<A>, A: Allocator>(
+    policy: &P,
+    verdict: Verdict,
+    action: Action<A>,
+) -> Verdict
+    ensures { result ≡ verdict_with (P.admits policy.now) verdict (value_of action) }
+{
+    let goes = goes_through(policy, verdict.follows, &action);
+    verdict.with(goes, action.is_string())
+}
+
+// Returns whether an action passes, or is the terminator of the string that comes before it, if
+// `follows` says that one does.
+fn goes_through<P: Admit<A>, A: Allocator>(policy: &P, follows: bool, action: &Action<A>) -> bool
+    ensures { result ≡ goes_through (P.admits policy.now) follows (value_of action.now) }
+{
+    if action.is_terminator() {
+        follows
+    } else {
+        passes(policy, action)
+    }
+}
+
+// Returns whether an action passes. It is dropped here, and not in the caller, which has other
+// ways to return.
+fn passes_itself<P: Admit<A>, A: Allocator>(policy: &P, action: Action<A>) -> bool
+    ensures { result ≡ passes (P.admits policy.now) (value_of action) }
+{
+    passes(policy, &action)
 }
 
 // Returns a performer that asks this policy about actions, and was given none.
@@ -172,15 +216,38 @@ pub(crate) fn judge_span<P: Admit<A>, A: Allocator + Copy>(
         return Ok((1, passes));
     }
     let mut performer = unasked(alloc, policy, limit);
+    let count = judge_up_to_end(framer, &mut performer, bytes);
+    let keeps = performer.sink.verdict.keeps();
+    match count {
+        Ok(count) => Ok((count, keeps)),
+        Err(error) => Err(error),
+    }
+}
+
+// Frames the bytes up to the end of a span or to the last byte, and returns their number.
+fn judge_up_to_end<P: Admit<A>, A: Allocator + Copy>(
+    framer: &mut VTParser<A>,
+    performer: &mut Performer<Judge<'_, P>, A>,
+    bytes: &[u8],
+) -> Result<usize, AllocError>
+    requires { 0 < length bytes.now }
+    ensures count { IfOk result (λ n. (0 < n) × (n ≤ length bytes.now)) }
+    ensures given { (limit : ℕ) → HasJudged P.Admit limit [] framer.old performer.old
+        → IfOk result (λ n. HasJudged P.Admit limit (take n bytes.now) framer.new performer.new
+        × (performer.new.sink.policy.now ≡ performer.old.sink.policy.now)
+        × IsQuietTo n bytes.now) }
+    ensures refused { (limit : ℕ) → HasJudged P.Admit limit [] framer.old performer.old
+        → OnErr result (Refused A) }
+{
     let mut at = 0;
     while at < bytes.len() {
-        let n = judge_some(framer, &mut performer, &bytes[at..])?;
+        let n = judge_some(framer, performer, &bytes[at..])?;
         at += n;
         if framer.is_ground() {
-            return Ok((at, performer.sink.verdict.keeps()));
+            return Ok(at);
         }
     }
-    Ok((at, performer.sink.verdict.keeps()))
+    Ok(at)
 }
 
 // Returns whether the control that comes first passes. None if none comes first.
@@ -194,7 +261,7 @@ fn judge_control<P: Admit<A>, A: Allocator>(
         ≡ are_kept (P.admits policy.now) (meaning_within (Some limit) (take 1 bytes.now)))) }
 {
     let code = ControlCode::from_byte(framer.first_control(bytes)?)?;
-    Some(passes(policy, &Action::Control(code)))
+    Some(passes_itself::<_, A>(policy, Action::Control(code)))
 }
 
 // Frames some of these bytes, at least one.
@@ -232,10 +299,12 @@ fn judge_all<P: Admit<A>, A: Allocator + Copy>(
     ensures refused { (limit : ℕ) (s : List ℕ)
         → HasJudged P.Admit limit s framer.old performer.old → OnErr result (Refused A) }
 {
-    match framer.parse(bytes, performer) {
-        Ok(()) => Ok(()),
-        Err(_) => Err(AllocError),
+    let mut at = 0;
+    while at < bytes.len() {
+        let n = judge_some(framer, performer, &bytes[at..])?;
+        at += n;
     }
+    Ok(())
 }
 
 /// Returns whether the span, which the framer was fed, stays: each value that it means goes
@@ -278,6 +347,10 @@ fn stays<P: Admit<A>, A: Allocator + Copy>(
 {
     framer.restart();
     let mut performer = unasked(alloc, policy, limit);
-    judge_all(framer, &mut performer, span)?;
-    Ok(performer.sink.verdict.keeps())
+    let done = judge_all(framer, &mut performer, span);
+    let keeps = performer.sink.verdict.keeps();
+    match done {
+        Ok(()) => Ok(keeps),
+        Err(error) => Err(error),
+    }
 }

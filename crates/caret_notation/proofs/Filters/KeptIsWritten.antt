@@ -26,9 +26,21 @@ terminator_plain (enter e) h = refl
 terminator_plain (datum b) h = refl
 terminator_plain exit h = absurd (true≢false (sym h))
 
-module _ {A : Type 0} (admits : Value A → Bool) where
-  abbrev some : List (Value A) → List (Value A)
-  some vs = filter (passes admits) vs
+-- The same of any values, by any tests and texts of them: no proof goes over the kinds of a value.
+module _ {V : Type 0} (ends strings admitted : V → Bool) (text : V → List ℕ)
+    (plain : (v : V) → ends v ≡ true → strings v ≡ false) where
+  -- the text of these values, after a string or not
+  texts : Bool → List V → List ℕ
+  texts follows [] = []
+  texts follows (v ∷ vs) = (if ends v && follows then [] else text v) ++ texts (strings v) vs
+
+  -- each of them passes, or ends the string before it
+  through : Bool → List V → Bool
+  through follows [] = true
+  through follows (v ∷ vs) = (if ends v then follows else admitted v) && through (strings v) vs
+
+  abbrev some : List V → List V
+  some vs = filter admitted vs
 
   -- a value that goes through after no string is no terminator, and passes
   goes_first : (t p : Bool) → (if t then false else p) ≡ true → (t ≡ false) × (p ≡ true)
@@ -36,57 +48,90 @@ module _ {A : Type 0} (admits : Value A → Bool) where
   goes_first false p h = (refl, h)
 
   -- one that passes, and is no terminator or ends no string, has its text
-  first_same : (vs : List (Value A)) → all_through admits false vs ≡ true
-      → texts_after true (some vs) ≡ texts_after false (some vs)
+  first_same : (vs : List V) → through false vs ≡ true
+      → texts true (some vs) ≡ texts false (some vs)
+  unfolding texts through
   first_same [] h = refl
   first_same (v ∷ vs) h =
-      let q = and_parts (goes_through admits false v) (all_through admits (is_string v) vs) h in
-      let k = goes_first (is_terminator v) (passes admits v) q.0 in
-      let rest = texts_after (is_string v) (some vs) in
-      ap (λ p. texts_after true (if p then v ∷ some vs else some vs)) k.1
-      ∙ ap (λ t. (if t && true then [] else whole_text v) ++ rest) k.0
-      ∙ sym (ap (λ t. (if t && false then [] else whole_text v) ++ rest) k.0)
-      ∙ sym (ap (λ p. texts_after false (if p then v ∷ some vs else some vs)) k.1)
+      let q = and_parts (if ends v then false else admitted v) (through (strings v) vs) h in
+      let k = goes_first (ends v) (admitted v) q.0 in
+      let rest = texts (strings v) (some vs) in
+      ap (λ p. texts true (if p then v ∷ some vs else some vs)) k.1
+      ∙ ap (λ t. (if t && true then [] else text v) ++ rest) k.0
+      ∙ sym (ap (λ t. (if t && false then [] else text v) ++ rest) k.0)
+      ∙ sym (ap (λ p. texts false (if p then v ∷ some vs else some vs)) k.1)
 
-  through_text : (follows : Bool) (vs : List (Value A)) → all_through admits follows vs ≡ true
-      → texts_after follows (some vs) ≡ texts_after follows vs
+  -- a terminator writes nothing after a string
+  nothing : (t f : Bool) (x : List ℕ) → f ≡ true → t ≡ true → (if t && f then [] else x) ≡ []
+  nothing true true x e h = refl
+  nothing true false x e h = absurd (true≢false (sym e))
+  nothing false f x e h = absurd (true≢false (sym h))
+
+  by_pass : (follows : Bool) (v : V) (vs : List V) → follows ≡ true → ends v ≡ true
+      → strings v ≡ false → through false vs ≡ true → (p : Bool)
+      → texts follows (if p then v ∷ some vs else some vs) ≡ texts false (some vs)
+  unfolding texts
+  by_pass follows v vs f e s h true =
+      ap (λ t. t ++ texts (strings v) (some vs)) (nothing (ends v) follows (text v) f e)
+      ∙ ap (λ b. texts b (some vs)) s
+  by_pass follows v vs f e s h false = ap (λ b. texts b (some vs)) f ∙ first_same vs h
+
+  goes : (t p follows e : Bool) → t ≡ e → (if t then follows else p) ≡ true
+      → (if e then follows else p) ≡ true
+  goes t p follows e h w = subst (λ x. (if x then follows else p) ≡ true) h w
+
+  by_end : (follows : Bool) (v : V) (vs : List V)
+      → (if ends v then follows else admitted v) ≡ true → through (strings v) vs ≡ true
+      → ((b : Bool) → through b vs ≡ true → texts b (some vs) ≡ texts b vs)
+      → (t : Bool) → ends v ≡ t → texts follows (some (v ∷ vs)) ≡ texts follows (v ∷ vs)
+  unfolding texts
+  by_end follows v vs one rest more true e =
+      let s = plain v e in
+      let f = goes (ends v) (admitted v) follows true e one in
+      let w = subst (λ b. through b vs ≡ true) s rest in
+      by_pass follows v vs f e s w (admitted v)
+      ∙ more false w
+      ∙ sym (ap (λ b. texts b vs) s)
+      ∙ sym (ap (λ t. t ++ texts (strings v) vs) (nothing (ends v) follows (text v) f e))
+  by_end follows v vs one rest more false e =
+      ap (λ p. texts follows (if p then v ∷ some vs else some vs))
+      (goes (ends v) (admitted v) follows false e one)
+      ∙ ap (λ x. (if ends v && follows then [] else text v) ++ x) (more (strings v) rest)
+
+  -- the values that pass have the text of all
+  through_text : (follows : Bool) (vs : List V) → through follows vs ≡ true
+      → texts follows (some vs) ≡ texts follows vs
+  unfolding texts through
   through_text follows [] h = refl
-  through_text follows (v ∷ vs) h = by_end (λ b. through_text b vs) (is_terminator v) refl
-    where
-      parts : (goes_through admits follows v ≡ true) × (all_through admits (is_string v) vs ≡ true)
-      parts = and_parts (goes_through admits follows v) (all_through admits (is_string v) vs) h
+  through_text follows (v ∷ vs) h =
+      let q = and_parts (if ends v then follows else admitted v) (through (strings v) vs) h in
+      by_end follows v vs q.0 q.1 (λ b. through_text b vs) (ends v) refl
 
-      goes : (t : Bool) → is_terminator v ≡ t → (if t then follows else passes admits v) ≡ true
-      goes t e = sym (ap (λ x. if x then follows else passes admits v) e) ∙ parts.0
+module _ {A : Type 0} (admits : Value A → Bool) where
+  -- the texts of values are those by the tests and texts of these
+  same_texts : (follows : Bool) (vs : List (Value A))
+      → texts_after follows vs
+      ≡ texts is_terminator is_string (passes admits) whole_text terminator_plain follows vs
+  unfolding texts
+  same_texts follows [] = refl
+  same_texts follows (v ∷ vs) = ap (λ x. text_after follows v ++ x) (same_texts (is_string v) vs)
 
-      -- a terminator writes nothing after a string
-      ends : follows ≡ true → is_terminator v ≡ true → text_after follows v ≡ []
-      ends f e = ap (λ x. if x && follows then [] else whole_text v) e
-          ∙ ap (λ x. if x then [] else whole_text v) f
+  same_through : (follows : Bool) (vs : List (Value A))
+      → through is_terminator is_string (passes admits) whole_text terminator_plain follows vs
+      ≡ all_through admits follows vs
+  unfolding through
+  same_through follows [] = refl
+  same_through follows (v ∷ vs) =
+      ap (λ x. goes_through admits follows v && x) (same_through (is_string v) vs)
 
-      by_pass : follows ≡ true → is_terminator v ≡ true → is_string v ≡ false → (p : Bool)
-          → texts_after follows (if p then v ∷ some vs else some vs)
-          ≡ texts_after false (some vs)
-      by_pass f e plain true =
-          ap (λ t. t ++ texts_after (is_string v) (some vs)) (ends f e)
-          ∙ ap (λ b. texts_after b (some vs)) plain
-      by_pass f e plain false =
-          ap (λ b. texts_after b (some vs)) f
-          ∙ first_same vs (subst (λ b. all_through admits b vs ≡ true) plain parts.1)
-
-      by_end : ((b : Bool) → all_through admits b vs ≡ true
-          → texts_after b (some vs) ≡ texts_after b vs) → (t : Bool) → is_terminator v ≡ t
-          → texts_after follows (some (v ∷ vs)) ≡ texts_after follows (v ∷ vs)
-      by_end more true e =
-          let plain = terminator_plain v e in
-          let f = goes true e in
-          by_pass f e plain (passes admits v)
-          ∙ more false (subst (λ b. all_through admits b vs ≡ true) plain parts.1)
-          ∙ sym (ap (λ b. texts_after b vs) plain)
-          ∙ sym (ap (λ t. t ++ texts_after (is_string v) vs) (ends f e))
-      by_end more false e =
-          ap (λ p. texts_after follows (if p then v ∷ some vs else some vs)) (goes false e)
-          ∙ ap (λ x. text_after follows v ++ x) (more (is_string v) parts.1)
+  -- the text of the values that go through is that of those that pass
+  passed_have_text : (vs : List (Value A)) → all_through admits false vs ≡ true
+      → texts_after false (filter (passes admits) vs) ≡ texts_after false vs
+  passed_have_text vs h =
+      same_texts false (filter (passes admits) vs)
+      ∙ through_text is_terminator is_string (passes admits) whole_text terminator_plain false vs
+      (same_through false vs ∙ h)
+      ∙ sym (same_texts false vs)
 
   -- all of it is in the text that a filter writes
   pub kept_written : (m : Marking) (limit : ℕ) (p : List ℕ) → is_kept m limit admits p ≡ true
@@ -95,4 +140,4 @@ module _ {A : Type 0} (admits : Value A → Bool) where
       let vs = meaning_within {A = A} (Some limit) p in
       let q = and_parts (are_kept admits vs) (is_spelled p (list_text vs)) (and_parts _ _ h).1 in
       let k = and_parts (is_some vs) (all_through admits false vs) q.0 in
-      ap (is_spelled p) (through_text false vs k.1) ∙ q.1
+      ap (is_spelled p) (passed_have_text vs k.1) ∙ q.1

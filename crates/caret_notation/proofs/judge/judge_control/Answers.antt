@@ -6,7 +6,7 @@ pub returns : goal.returns
 returns g c = λ limit h.
     let one = c.in_ok-first_control.ensures.given (Some limit) [] h in (
       one.0,
-      c.passes.ensures
+      c.passes_itself.ensures
           ∙ sym (control_found (g.P.Admit.admits c.args.policy.now) limit
           (take 1 c.args.bytes.now) _ c.in_ok-code.code one.1 (sym c.in_ok-code.ensures)),
     )

@@ -1,4 +1,4 @@
-use Rattle.std.proofs.Common.{ℕ, Bool, List, ◌&&◌, true, false, Some, ap, sym, ◌∙◌, subst}
+use Rattle.std.proofs.Common.{ℕ, Bool, List, ◌&&◌, Some, ap, sym, ◌∙◌, subst}
 use Rattle.esc_actions.specs.Meaning.{meaning_within}
 use Rattle.esc_frame.specs.Stream.{HasConsumedWithin}
 use Rattle.esc_normal.specs.Normalising.{normal_form}
