@@ -1,15 +1,25 @@
 //! Screens that another one leads to.
 
 use crate::painted::BEFORE;
-use crate::shown::{Shown, fed, painting_of};
+use crate::shown::{Shown, fed, painting_of, shows_same};
+use esc_paint::push_difference;
 use esc_terminal::Terminal;
 use std::alloc::{AllocError, Global};
 use std::test::Fail;
 
 fn difference_of<T: Shown>(alloc: Global, from: &T, to: &T) -> Result<String, AllocError> {
     let mut text = String::new(alloc);
-    from.push_lead(to, &mut text)?;
+    push_lead(&mut text, from, to)?;
     Ok(text)
+}
+
+fn push_lead<T: Shown>(text: &mut String, from: &T, to: &T) -> Result<(), AllocError> {
+    match (from.shown(), to.shown()) {
+        (Some((old, old_styles)), Some((new, new_styles))) => {
+            push_difference(text, old, old_styles, new, new_styles)
+        }
+        _ => Err(AllocError),
+    }
 }
 
 // Returns the text that leads from the screen of a stream to that of another.
@@ -27,7 +37,7 @@ fn lead_from<T: Shown>(alloc: Global, from: &T, to: &[u8]) -> Result<String, All
 fn show_as<T: Shown>(alloc: Global, chunks: &[&[u8]], stream: &[u8]) -> Result<bool, AllocError> {
     let wanted: T = fed(alloc, &[stream])?;
     let shown = fed(alloc, chunks)?;
-    Ok(wanted.shows_same(&shown))
+    Ok(shows_same(&wanted, &shown))
 }
 
 // Returns whether a terminal that read a stream is led to the screen of another.

@@ -1,6 +1,6 @@
 //! Screens that are painted.
 
-use crate::shown::{Shown, fed, painting_of, text_of};
+use crate::shown::{Shown, fed, painting_of, shows_same, text_of};
 use esc_terminal::Terminal;
 use std::alloc::{AllocError, Global};
 use std::test::Fail;
@@ -15,7 +15,7 @@ fn is_painted<T: Shown>(alloc: Global, stream: &[u8]) -> Result<bool, AllocError
     let text = text_of(alloc, &terminal)?;
     let new = fed(alloc, &[text.as_bytes()])?;
     let old = fed(alloc, &[BEFORE, text.as_bytes()])?;
-    Ok(terminal.shows_same(&new) && terminal.shows_same(&old))
+    Ok(shows_same(&terminal, &new) && shows_same(&terminal, &old))
 }
 
 #[test]

@@ -1,7 +1,7 @@
 //! Terminals that the tests compare.
 
-use esc_paint::{push_difference, push_painting};
-use esc_screen::{Cell, Content, Marks};
+use esc_paint::push_painting;
+use esc_screen::{Cell, Content, Cursor, Marks, Screen};
 use esc_sgr::is_same;
 use esc_style::Look;
 use esc_terminal::{Styles, Terminal};
@@ -18,14 +18,8 @@ pub(crate) trait Shown: Drop {
 
     fn read(&mut self, bytes: &[u8]) -> Result<(), AllocError>;
 
-    // Appends the text that paints its screen.
-    fn push_text(&self, text: &mut String) -> Result<(), AllocError>;
-
-    // Appends the text that leads from its screen to that of another.
-    fn push_lead(&self, to: &Self, text: &mut String) -> Result<(), AllocError>;
-
-    // Returns whether another shows the same.
-    fn shows_same(&self, other: &Self) -> bool;
+    // Returns its screen, and the looks of that.
+    fn shown(&self) -> Option<(&Screen, &Styles)>;
 }
 
 impl Shown for Terminal {
@@ -37,25 +31,8 @@ impl Shown for Terminal {
         self.feed(bytes)
     }
 
-    fn push_text(&self, text: &mut String) -> Result<(), AllocError> {
-        match (self.screen(), self.styles()) {
-            (Some(screen), Some(styles)) => push_painting(text, screen, styles),
-            _ => Err(AllocError),
-        }
-    }
-
-    fn push_lead(&self, to: &Terminal, text: &mut String) -> Result<(), AllocError> {
-        let (Some(old), Some(old_styles)) = (self.screen(), self.styles()) else {
-            return Err(AllocError);
-        };
-        let (Some(new), Some(new_styles)) = (to.screen(), to.styles()) else {
-            return Err(AllocError);
-        };
-        push_difference(text, old, old_styles, new, new_styles)
-    }
-
-    fn shows_same(&self, other: &Terminal) -> bool {
-        show_same(self, other)
+    fn shown(&self) -> Option<(&Screen, &Styles)> {
+        self.screen().zip(self.styles())
     }
 }
 
@@ -71,8 +48,15 @@ pub(crate) fn fed<T: Shown>(alloc: Global, chunks: &[&[u8]]) -> Result<T, AllocE
 /// Returns the text that paints the screen of a terminal.
 pub(crate) fn text_of<T: Shown>(alloc: Global, terminal: &T) -> Result<String, AllocError> {
     let mut text = String::new(alloc);
-    terminal.push_text(&mut text)?;
+    push_text(&mut text, terminal)?;
     Ok(text)
+}
+
+fn push_text<T: Shown>(text: &mut String, terminal: &T) -> Result<(), AllocError> {
+    match terminal.shown() {
+        Some((screen, styles)) => push_painting(text, screen, styles),
+        None => Err(AllocError),
+    }
 }
 
 /// Returns the text that paints the screen of a stream.
@@ -107,23 +91,37 @@ fn seen(styles: &Styles, cell: &Cell) -> Look {
     }
 }
 
-// Returns whether two terminals show the same.
-fn show_same(a: &Terminal, b: &Terminal) -> bool {
-    let (Some(screen), Some(other)) = (a.screen(), b.screen()) else {
-        return false;
-    };
-    let (Some(styles), Some(others)) = (a.styles(), b.styles()) else {
-        return false;
-    };
-    for row in 0..ROWS as usize {
-        for (cell, painted) in screen.row(row).iter().zip(other.row(row)) {
-            if !same_content(cell.content, painted.content)
-                || !is_same(&seen(styles, cell), &seen(others, painted))
-            {
-                return false;
-            }
-        }
+// Returns whether two cells of screens with these looks are seen as the same.
+fn same_cell(styles: &Styles, cell: &Cell, others: &Styles, other: &Cell) -> bool {
+    same_content(cell.content, other.content) && is_same(&seen(styles, cell), &seen(others, other))
+}
+
+fn same_row(styles: &Styles, row: &[Cell], others: &Styles, other: &[Cell]) -> bool {
+    let mut is_same = row.len() == other.len();
+    for (cell, painted) in row.iter().zip(other) {
+        is_same &= same_cell(styles, cell, others, painted);
     }
-    let (from, to) = (screen.cursor(), other.cursor());
+    is_same
+}
+
+fn same_rows(screen: &Screen, styles: &Styles, other: &Screen, others: &Styles) -> bool {
+    let mut is_same = true;
+    for row in 0..ROWS as usize {
+        is_same &= same_row(styles, screen.row(row), others, other.row(row));
+    }
+    is_same
+}
+
+fn same_cursor(from: Cursor, to: Cursor) -> bool {
     from.row == to.row && from.column == to.column && from.pending == to.pending
+}
+
+/// Returns whether two terminals show the same.
+pub(crate) fn shows_same<T: Shown>(a: &T, b: &T) -> bool {
+    match (a.shown(), b.shown()) {
+        (Some((screen, styles)), Some((other, others))) => {
+            same_cursor(screen.cursor(), other.cursor()) && same_rows(screen, styles, other, others)
+        }
+        _ => false,
+    }
 }
