@@ -1,5 +1,5 @@
 //! The calls that rows name.
-use crate::codecs::{base64, bytes_image, displayed, emitted, of_parts, written};
+use crate::codecs::{base64, bytes_image, emitted, image, link, link_with_id, of_parts};
 use crate::heap::is_exact;
 use crate::lent::{compared, noise_compared};
 use crate::lines::left;
@@ -11,8 +11,6 @@ use crate::sixels::{count_of, drawn, written_with};
 use crate::typed::function;
 use crate::words::word;
 use esc_html::is_safe_address;
-use esc_kitty::KittyImage;
-use esc_links::Hyperlink;
 use esc_values::scalar::text_in;
 use failing_alloc::Refusing;
 use std::alloc::{AllocError, Global};
@@ -56,15 +54,13 @@ pub fn answer(
     input: &[u8],
 ) -> Result<String, AllocError> {
     match call {
-        "link" => displayed(alloc, Hyperlink::new(heap, text(input))),
-        "link-with-id" => displayed(alloc, Hyperlink::new_with_id(heap, "x", text(input))),
+        "link" => link(alloc, heap, text(input)),
+        "link-with-id" => link_with_id(alloc, heap, text(input)),
         "link-of" | "prompt-of" | "file-of" => of_parts(call, alloc, heap, input),
         "base64" => base64(alloc, heap, input),
-        "image" | "image-again" => {
-            let image = KittyImage::parse_apc(heap, input);
-            written(alloc, image, if call == "image" { b"" } else { input })
-        }
-        "image-of-bytes" => displayed(alloc, bytes_image(heap, input)),
+        "image" => image(alloc, heap, input, b""),
+        "image-again" => image(alloc, heap, input, input),
+        "image-of-bytes" => bytes_image(alloc, heap, input),
         "query-again" => query_of(alloc, heap, input),
         "csi" | "esc" | "c0" | "c1" => function(call, alloc, input),
         _ => of_stream(call, alloc, heap, input),

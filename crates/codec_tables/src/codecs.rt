@@ -16,8 +16,8 @@ pub fn emitted<T: Debug + Drop>(alloc: Global, value: T) -> Result<String, Alloc
     format!(in alloc; "{value:?}")
 }
 
-/// Returns the Debug text and the text of a value, if there was memory for it.
-pub fn displayed<T: Debug + Display + Drop>(
+// Returns the Debug text and the text of a value, if there was memory for it.
+fn displayed<T: Debug + Display + Drop>(
     alloc: Global,
     value: Result<T, AllocError>,
 ) -> Result<String, AllocError> {
@@ -27,9 +27,9 @@ pub fn displayed<T: Debug + Display + Drop>(
     }
 }
 
-/// Returns the text of the value that an application program command's data means, `none` if there
-/// is no value, and `as it came` if the text is this data.
-pub fn written<T: Display + Drop>(
+// Returns the text of the value that an application program command's data means, `none` if there
+// is no value, and `as it came` if the text is this data.
+fn written<T: Display + Drop>(
     alloc: Global,
     value: Result<Option<T>, AllocError>,
     data: &[u8],
@@ -39,6 +39,44 @@ pub fn written<T: Display + Drop>(
         Ok(None) => String::from_str(alloc, "none"),
         Err(error) => Err(error),
     }
+}
+
+/// Returns the Debug text and the text of the link to an address.
+pub fn link<A: Allocator + Copy>(
+    alloc: Global,
+    heap: A,
+    address: &str,
+) -> Result<String, AllocError> {
+    displayed(alloc, Hyperlink::new(heap, address))
+}
+
+/// Returns those of the link to the address `x` with this `id`.
+pub fn link_with_id<A: Allocator + Copy>(
+    alloc: Global,
+    heap: A,
+    id: &str,
+) -> Result<String, AllocError> {
+    displayed(alloc, Hyperlink::new_with_id(heap, "x", id))
+}
+
+/// Returns the text of the image that an application program command means, `none` if it means
+/// none, and `as it came` if the text is this data.
+pub fn image<A: Allocator + Copy>(
+    alloc: Global,
+    heap: A,
+    command: &[u8],
+    data: &[u8],
+) -> Result<String, AllocError> {
+    written(alloc, KittyImage::parse_apc(heap, command), data)
+}
+
+/// Returns the Debug text and the text of an image of these bytes, without keys.
+pub fn bytes_image<A: Allocator>(
+    alloc: Global,
+    heap: A,
+    bytes: &[u8],
+) -> Result<String, AllocError> {
+    displayed(alloc, image_of(heap, bytes))
 }
 
 fn compared(
@@ -115,8 +153,7 @@ fn both<T: Debug + Drop, U: Debug + Drop>(
     }
 }
 
-/// Returns an image of these bytes, without keys.
-pub fn bytes_image<A: Allocator>(alloc: A, bytes: &[u8]) -> Result<KittyImage<A>, AllocError> {
+fn image_of<A: Allocator>(alloc: A, bytes: &[u8]) -> Result<KittyImage<A>, AllocError> {
     match Items::from_slice(alloc, bytes) {
         Ok(bytes) => Ok(transmitted(KittyImageData::DirectBin(bytes))),
         Err(error) => Err(error),

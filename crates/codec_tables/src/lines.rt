@@ -2,6 +2,23 @@
 use line_collapse::LineCollapser;
 use std::alloc::{AllocError, Allocator, Global};
 
+// A filter that keeps final lines.
+trait Collapsing: Drop {
+    // Appends the text of the rows of a stream that became final, and then of those that were left.
+    fn add_left(&mut self, stream: &[u8], text: &mut String) -> Result<(), AllocError>;
+}
+
+impl<A: Allocator + Copy> Collapsing for LineCollapser<A> {
+    fn add_left(&mut self, stream: &[u8], text: &mut String) -> Result<(), AllocError> {
+        for input_chunk in stream.chunks(3) {
+            self.feed(input_chunk)?;
+            text.push_str(self.output())?;
+        }
+        self.finish()?;
+        text.push_str(self.output())
+    }
+}
+
 /// Returns the final lines of a stream, if so many rows of so many columns may be written again:
 /// the text of the rows that became final, and then of those that were left.
 pub fn left<A: Allocator + Copy>(
@@ -11,25 +28,21 @@ pub fn left<A: Allocator + Copy>(
     (rows, columns): (usize, usize),
 ) -> Result<String, AllocError> {
     let mut text = String::new(alloc);
-    let added = match &mut LineCollapser::new(heap, rows, columns) {
-        Ok(collapse) => add_left(collapse, stream, &mut text),
-        Err(_) => Err(AllocError),
-    };
-    match added {
+    match add_made(LineCollapser::new(heap, rows, columns), stream, &mut text) {
         Ok(()) => Ok(text),
         Err(error) => Err(error),
     }
 }
 
-fn add_left<A: Allocator + Copy>(
-    collapse: &mut LineCollapser<A>,
+// Appends the final lines by a filter, if there is one. A filter of any type is dropped then, so
+// that no proof goes over its screen.
+fn add_made<C: Collapsing>(
+    made: Result<C, AllocError>,
     stream: &[u8],
     text: &mut String,
 ) -> Result<(), AllocError> {
-    for input_chunk in stream.chunks(3) {
-        collapse.feed(input_chunk)?;
-        text.push_str(collapse.output())?;
+    match made {
+        Ok(mut filter) => filter.add_left(stream, text),
+        Err(error) => Err(error),
     }
-    collapse.finish()?;
-    text.push_str(collapse.output())
 }

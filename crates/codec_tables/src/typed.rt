@@ -6,10 +6,9 @@ use std::alloc::{AllocError, Global};
 use typed_functions::{CsiParam, Function, Modes, Rendition, Renditions, Unfit};
 
 /// Returns the request of a sequence or a control: the Debug text and the text of its typed value;
-/// after
-/// `Sgr:` those of each rendition, and for one that is not known `?` and its entries; after the
-/// operation on modes or tab stops the number of each, or `?`. Without a typed value the reason is
-/// there, and the name of its function if it has one.
+/// after `Sgr:` those of each rendition, and for one that is not known `?` and its entries; after
+/// the operation on modes or tab stops the number of each, or `?`. Without a typed value the reason
+/// is there, and the name of its function if it has one.
 ///
 /// - `csi`: a control sequence of the bytes after `ESC [`.
 /// - `esc`: an escape sequence of the bytes after `ESC`.
