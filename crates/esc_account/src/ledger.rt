@@ -12,6 +12,7 @@ use crate::account::Account;
 use crate::audience::Tap;
 use crate::book::Book;
 use crate::judge::Judge;
+use crate::kept::leave_out_first;
 use crate::room::has_room;
 use esc_frame::laws;
 use std::alloc::{AllocError, Allocator, Global};
@@ -77,6 +78,17 @@ impl<J: Judge<A>, B: Book<A>, A: Allocator> Ledger<J, B, A> {
         self.rest.len() < self.next
     }
 
+    // Enters the segments that are finished, unless what is kept is to be cut later.
+    fn look_in_time(&mut self) -> Result<(), AllocError>
+        requires { HasRoom self.old.account (length self.old.rest.items) }
+        ensures hears { (s : List ℕ) → Hears J.Judge B.Book self.old s
+            → OnOk result (Hears J.Judge B.Book self.new s) }
+        ensures judge { self.new.judge ≡ self.old.judge }
+        ensures refused { OnErr result (Refused A) }
+    {
+        if self.waits() { Ok(()) } else { self.look() }
+    }
+
     // Enters the segments that are finished, and says when to look again.
     fn look(&mut self) -> Result<(), AllocError>
         requires { HasRoom self.old.account (length self.old.rest.items) }
@@ -85,9 +97,13 @@ impl<J: Judge<A>, B: Book<A>, A: Allocator> Ledger<J, B, A> {
         ensures judge { self.new.judge ≡ self.old.judge }
         ensures refused { OnErr result (Refused A) }
     {
-        self.enter_finished()?;
-        self.next = self.rest.len().saturating_mul(2);
-        Ok(())
+        match self.enter_finished() {
+            Ok(()) => {
+                self.next = self.rest.len().saturating_mul(2);
+                Ok(())
+            }
+            Err(error) => Err(error),
+        }
     }
 
     // Enters the segments that are finished, and keeps what is not.
@@ -98,12 +114,18 @@ impl<J: Judge<A>, B: Book<A>, A: Allocator> Ledger<J, B, A> {
         ensures judge { self.new.judge ≡ self.old.judge }
         ensures refused { OnErr result (Refused A) }
     {
-        let (account, count) = self
+        let book = &mut self.book;
+        match self
             .account
-            .finished_entered(&self.judge, &mut self.book, &self.rest, false)?;
-        self.account = account;
-        self.rest.drain(..count);
-        Ok(())
+            .finished_entered(&self.judge, book, &self.rest, false)
+        {
+            Ok((account, count)) => {
+                self.account = account;
+                leave_out_first(&mut self.rest, count);
+                Ok(())
+            }
+            Err(error) => Err(error),
+        }
     }
 }
 
@@ -118,11 +140,10 @@ impl<J: Judge<A>, B: Book<A>, A: Allocator> Tap<A> for Ledger<J, B, A> {
         if !has_room(self.account, self.rest.len(), bytes.len()) {
             return Ok(());
         }
-        fallible_alloc::extend(&mut self.rest, bytes)?;
-        if self.waits() {
-            return Ok(());
+        match fallible_alloc::extend(&mut self.rest, bytes) {
+            Ok(()) => self.look_in_time(),
+            Err(error) => Err(error),
         }
-        self.look()
     }
 
     fn hear_end(&mut self, _text: &str) -> Result<(), AllocError> {
@@ -130,10 +151,16 @@ impl<J: Judge<A>, B: Book<A>, A: Allocator> Tap<A> for Ledger<J, B, A> {
         if !has_room(self.account, self.rest.len(), 0) {
             return Ok(());
         }
-        self.account = self
+        match self
             .account
-            .entered(&self.judge, &mut self.book, &self.rest)?;
-        self.rest.clear();
-        Ok(())
+            .entered(&self.judge, &mut self.book, &self.rest)
+        {
+            Ok(account) => {
+                self.account = account;
+                self.rest.clear();
+                Ok(())
+            }
+            Err(error) => Err(error),
+        }
     }
 }

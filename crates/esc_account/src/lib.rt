@@ -27,6 +27,7 @@ pub mod fate;
 mod feeds;
 mod first;
 pub mod judge;
+mod kept;
 pub mod laws;
 pub mod ledger;
 pub mod line_ledger;

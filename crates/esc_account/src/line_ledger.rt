@@ -3,15 +3,17 @@
 
 ghost use Rattle.std.specs.Prelude.{◌≡◌, ◌+◌, ◌++◌, ◌≤◌, List, OnErr, OnOk, [], length, take, true, ℕ};
 ghost use Rattle.fallible_alloc.specs.Refusals.{Refused};
-ghost use Rattle.esc_filter.specs.Lines.{IsLine};
+ghost use Rattle.esc_filter.specs.Lines.{IsLine, lines};
 ghost use Rattle.esc_account.specs.Accounts.{Counts, HasRoom};
 ghost use Rattle.esc_account.specs.Ways.{by_lines};
-ghost use Rattle.esc_account.specs.Ledgers.{AreOpen, IsCounted, Keeps, Leaves, Tells};
+ghost use Rattle.esc_account.specs.Entries.{Entry as Told};
+ghost use Rattle.esc_account.specs.Ledgers.{AreOpen, IsCounted, Keeps, Leaves, LineEnters, LineGives, LinesRun, Tells};
 
 use crate::account::Account;
 use crate::audience::Tap;
 use crate::book::Book;
 use crate::judge::Judge;
+use crate::kept::{extend_both, leave_out_first};
 use crate::room::has_room;
 use crate::whole_lines::{lines_entered, rest_entered};
 use esc_filter::line_length;
@@ -111,11 +113,28 @@ impl<J: Judge<A>, B: Book<A>, A: Allocator> LineLedger<J, B, A> {
         ensures judge { self.new.judge ≡ self.old.judge }
         ensures refused { OnErr result (Refused A) }
     {
-        self.end_line(&bytes[..n], &text[..m])?;
-        let (line, text) = (&bytes[n..], &text[m..]);
-        let found = lines_entered(self.account, &self.judge, &mut self.book, line, text)?;
-        self.account = found.account;
-        self.keep(&line[found.at..], &text[found.to..])
+        match self.end_line(&bytes[..n], &text[..m]) {
+            Ok(()) => self.take_after(&bytes[n..], &text[m..]),
+            Err(error) => Err(error),
+        }
+    }
+
+    // Takes bytes more, and the text that was written of them, where nothing is kept.
+    fn take_after(&mut self, bytes: &[u8], text: &[u8]) -> Result<(), AllocError>
+        requires { HasRoom self.old.account (length bytes.now) }
+        ensures keeps { (s t : List ℕ) → self.old.line.items ≡ [] → self.old.text.items ≡ []
+            → Leaves J.Judge B.Book self.old bytes.now text.now s t
+            → OnOk result (Keeps J.Judge B.Book self.new s t) }
+        ensures judge { self.new.judge ≡ self.old.judge }
+        ensures refused { OnErr result (Refused A) }
+    {
+        match lines_entered(self.account, &self.judge, &mut self.book, bytes, text) {
+            Ok(found) => {
+                self.account = found.account;
+                self.keep(&bytes[found.at..], &text[found.to..])
+            }
+            Err(error) => Err(error),
+        }
     }
 
     // Enters the line that is kept and ends with these bytes, of which this was written.
@@ -130,14 +149,37 @@ impl<J: Judge<A>, B: Book<A>, A: Allocator> LineLedger<J, B, A> {
             × (self.new.line.items ≡ []) × (self.new.text.items ≡ [])) }
         ensures same { (self.new.judge ≡ self.old.judge) × OnErr result (Refused A) }
     {
-        fallible_alloc::extend(&mut self.line, bytes)?;
-        fallible_alloc::extend(&mut self.text, text)?;
-        self.account = self
+        match extend_both(&mut self.line, bytes, &mut self.text, text) {
+            Ok(()) => self.enter_line(),
+            Err(error) => Err(error),
+        }
+    }
+
+    // Enters what is kept as one line.
+    fn enter_line(&mut self) -> Result<(), AllocError>
+        requires { HasRoom self.old.account (length self.old.line.items) }
+        ensures enters { OnOk result (LineEnters (J.rule self.old.judge) self.old.account
+            self.old.line.items self.old.text.items self.new.account
+            × Counts self.old.account (length self.old.line.items) self.new.account
+            × (self.new.line.items ≡ []) × (self.new.text.items ≡ [])) }
+        ensures given { (es : List Told) → B.was_given self.old.book es → OnOk result
+            ((fs : List Told) × LineGives (J.rule self.old.judge) self.old.account
+            self.old.line.items self.old.text.items fs × B.was_given self.new.book (es ++ fs)) }
+        ensures same { (self.new.judge ≡ self.old.judge) × OnErr result (Refused A) }
+    {
+        let book = &mut self.book;
+        match self
             .account
-            .line_entered(&self.judge, &mut self.book, &self.line, &self.text)?;
-        self.line.clear();
-        self.text.clear();
-        Ok(())
+            .line_entered(&self.judge, book, &self.line, &self.text)
+        {
+            Ok(account) => {
+                self.account = account;
+                self.line.clear();
+                self.text.clear();
+                Ok(())
+            }
+            Err(error) => Err(error),
+        }
     }
 
     // Keeps these, after what is kept.
@@ -150,10 +192,13 @@ impl<J: Judge<A>, B: Book<A>, A: Allocator> LineLedger<J, B, A> {
             × (self.new.judge ≡ self.old.judge) }
         ensures refused { OnErr result (Refused A) }
     {
-        fallible_alloc::extend(&mut self.line, line)?;
-        fallible_alloc::extend(&mut self.text, text)?;
-        self.is_open = self.is_open && line_length(line).is_none() && line_length(text).is_none();
-        Ok(())
+        match extend_both(&mut self.line, line, &mut self.text, text) {
+            Ok(()) => {
+                self.is_open = self.is_open && are_open(line, text);
+                Ok(())
+            }
+            Err(error) => Err(error),
+        }
     }
 
     // Takes bytes more into what is kept, and enters the lines that come whole there.
@@ -165,23 +210,60 @@ impl<J: Judge<A>, B: Book<A>, A: Allocator> LineLedger<J, B, A> {
         ensures refused { OnErr result (Refused A) }
     {
         let was_open = self.is_open;
-        self.keep(bytes, text)?;
-        if was_open {
-            return Ok(());
+        match self.keep(bytes, text) {
+            Ok(()) => { if was_open { Ok(()) } else { self.enter_kept() } }
+            Err(error) => Err(error),
         }
-        let found = lines_entered(
-            self.account,
-            &self.judge,
-            &mut self.book,
-            &self.line,
-            &self.text,
-        )?;
-        self.account = found.account;
-        self.line.drain(..found.at);
-        self.text.drain(..found.to);
-        self.is_open = line_length(&self.line).is_none() && line_length(&self.text).is_none();
-        Ok(())
     }
+
+    // Enters the lines that come whole in what is kept.
+    fn enter_kept(&mut self) -> Result<(), AllocError>
+        requires { HasRoom self.old.account (length self.old.line.items) }
+        ensures keeps { (s t : List ℕ) → Leaves J.Judge B.Book self.old self.old.line.items
+            self.old.text.items s t → OnOk result (Keeps J.Judge B.Book self.new s t) }
+        ensures judge { self.new.judge ≡ self.old.judge }
+        ensures refused { OnErr result (Refused A) }
+    {
+        let book = &mut self.book;
+        match lines_entered(self.account, &self.judge, book, &self.line, &self.text) {
+            Ok(found) => {
+                self.account = found.account;
+                leave_out_first(&mut self.line, found.at);
+                leave_out_first(&mut self.text, found.to);
+                self.is_open = are_open(&self.line, &self.text);
+                Ok(())
+            }
+            Err(error) => Err(error),
+        }
+    }
+
+    // Enters all lines of what is kept.
+    fn enter_rest(&mut self) -> Result<(), AllocError>
+        requires { HasRoom self.old.account (length self.old.line.items) }
+        ensures run { (es : List Told) → B.was_given self.old.book es → OnOk result
+            ((fs : List Told) × LinesRun (J.rule self.old.judge) self.old.account
+            (lines self.old.line.items) (lines self.old.text.items) self.new.account fs
+            × B.was_given self.new.book (es ++ fs)) }
+        ensures counts { OnOk result (Counts self.old.account (length self.old.line.items)
+            self.new.account) }
+        ensures same { (self.new.judge ≡ self.old.judge) × OnErr result (Refused A) }
+    {
+        let book = &mut self.book;
+        match rest_entered(self.account, &self.judge, book, &self.line, &self.text) {
+            Ok(account) => {
+                self.account = account;
+                Ok(())
+            }
+            Err(error) => Err(error),
+        }
+    }
+}
+
+// Whether neither has a line feed.
+fn are_open(line: &[u8], text: &[u8]) -> bool
+    ensures { result ≡ true → AreOpen line.now text.now }
+{
+    line_length(line).is_none() && line_length(text).is_none()
 }
 
 impl<J: Judge<A>, B: Book<A>, A: Allocator> Tap<A> for LineLedger<J, B, A> {
@@ -202,14 +284,9 @@ impl<J: Judge<A>, B: Book<A>, A: Allocator> Tap<A> for LineLedger<J, B, A> {
         if !has_room(self.account, self.line.len(), 0) {
             return Ok(());
         }
-        fallible_alloc::extend(&mut self.text, text.as_bytes())?;
-        self.account = rest_entered(
-            self.account,
-            &self.judge,
-            &mut self.book,
-            &self.line,
-            &self.text,
-        )?;
-        Ok(())
+        match fallible_alloc::extend(&mut self.text, text.as_bytes()) {
+            Ok(()) => self.enter_rest(),
+            Err(error) => Err(error),
+        }
     }
 }

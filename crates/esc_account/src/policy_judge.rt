@@ -19,7 +19,7 @@ ghost use Rattle.esc_account.specs.Weighed.{fate_by, facts_of_none, weighed_all}
 use crate::command::{command_verdict, is_left_end};
 use crate::fate::Fate;
 use crate::judge::Judge;
-use crate::reading::{is_csi, is_short, parse_into, segment_text, split_into};
+use crate::reading::{is_csi, read_into, segment_text};
 use crate::rendition::passed_rendition;
 use crate::sequence::{left_sequence, sequence_verdict};
 use crate::terminator::is_end;
@@ -146,7 +146,7 @@ impl<P: Admit<A>, A: Allocator + Copy> PolicyJudge<P, A> {
         ensures refused { OnErr result (Refused A) }
     {
         match self.weighed(before, segment) {
-            Ok(weighed) => self.verdict_of(segment, weighed),
+            Ok(weighed) => verdict_of(self.alloc, self.limit, segment, weighed),
             Err(error) => Err(error),
         }
     }
@@ -168,101 +168,10 @@ impl<P: Admit<A>, A: Allocator + Copy> PolicyJudge<P, A> {
             (reading_within (Some self.now.limit) g (is_finished g (joined_bytes gs)))) }
         ensures refused { OnErr result (Refused A) }
     {
-        match self.weighed_at_once(before, segment) {
-            Some(weighed) => Ok(weighed),
-            None => self.weighed_by_parser(before, segment),
-        }
-    }
-
-    // The same by splitting the segment, where it is short and memory is not refused.
-    fn weighed_at_once(&self, before: Option<char>, segment: Segment<'_>) -> Option<Weighed>
-        ensures { (g : Shape) (gs : List Shape) → AreSegments (g ∷ gs)
-            → IsItem segment.entry g (joined_bytes gs) → IfSome result (λ w. w
-            ≡ weighed_all self.now.by_lines self.now.guard (P.admits self.now.policy) before
-            segment.entry.kind (facts_of_none before)
-            (reading_within (Some self.now.limit) g (is_finished g (joined_bytes gs)))) }
-    {
-        if !is_short(self.limit, segment) {
-            return None;
-        }
         let sink = Weighing::new(self, before, segment.kind);
-        match split_into(self.alloc, self.limit, segment, sink) {
-            Ok(weighing) => Some(weighing.weighed),
-            Err(_) => None,
-        }
-    }
-
-    // The same by a parser.
-    fn weighed_by_parser(
-        &self,
-        before: Option<char>,
-        segment: Segment<'_>,
-    ) -> Result<Weighed, AllocError>
-        ensures given { (g : Shape) (gs : List Shape) → AreSegments (g ∷ gs)
-            → IsItem segment.entry g (joined_bytes gs) → IfOk result (λ w. w
-            ≡ weighed_all self.now.by_lines self.now.guard (P.admits self.now.policy) before
-            segment.entry.kind (facts_of_none before)
-            (reading_within (Some self.now.limit) g (is_finished g (joined_bytes gs)))) }
-        ensures refused { OnErr result (Refused A) }
-    {
-        let sink = Weighing::new(self, before, segment.kind);
-        match parse_into(self.alloc, self.limit, segment, sink) {
+        let again = sink.twin();
+        match read_into(self.alloc, self.limit, segment, sink, again) {
             Ok(weighing) => Ok(weighing.weighed),
-            Err(error) => Err(error),
-        }
-    }
-
-    // Says what becomes of a segment of whose actions this is known.
-    fn verdict_of(&self, segment: Segment<'_>, weighed: Weighed) -> Result<Verdict, AllocError>
-        ensures given { (g : Shape) (gs : List Shape) → AreSegments (g ∷ gs)
-            → IsItem segment.entry g (joined_bytes gs) → IfOk result (λ v. v ≡ record {
-              fate = fate_by weighed segment.entry.kind segment.entry.bytes.now (list_text {A = A}
-                  (reading_within (Some self.now.limit) g (is_finished g (joined_bytes gs))));
-              before = weighed.last;
-            }) }
-        ensures refused { OnErr result (Refused A) }
-    {
-        match self.fate_of(segment, weighed) {
-            Ok(fate) => Ok(Verdict {
-                fate,
-                before: weighed.last,
-            }),
-            Err(error) => Err(error),
-        }
-    }
-
-    // Says what becomes of its bytes.
-    fn fate_of(&self, segment: Segment<'_>, weighed: Weighed) -> Result<Fate, AllocError>
-        ensures given { (g : Shape) (gs : List Shape) → AreSegments (g ∷ gs)
-            → IsItem segment.entry g (joined_bytes gs) → IfOk result (λ f. f
-            ≡ fate_by weighed segment.entry.kind segment.entry.bytes.now
-            (list_text {A = A} (reading_within (Some self.now.limit) g
-            (is_finished g (joined_bytes gs))))) }
-        ensures refused { OnErr result (Refused A) }
-    {
-        if !weighed.has_own {
-            Ok(Fate::Swallowed)
-        } else if !weighed.writes_all {
-            Ok(Fate::LeftOut)
-        } else if is_replaced(segment.kind) {
-            Ok(Fate::Replaced)
-        } else if weighed.shows_some {
-            Ok(Fate::Shown)
-        } else {
-            self.spelling(segment)
-        }
-    }
-
-    // Says what becomes of the bytes of a segment whose text is written.
-    fn spelling(&self, segment: Segment<'_>) -> Result<Fate, AllocError>
-        ensures given { (g : Shape) (gs : List Shape) → AreSegments (g ∷ gs)
-            → IsItem segment.entry g (joined_bytes gs) → IfOk result (λ f. f
-            ≡ spelling_of segment.entry.bytes.now (list_text {A = A}
-            (reading_within (Some self.now.limit) g (is_finished g (joined_bytes gs))))) }
-        ensures refused { OnErr result (Refused A) }
-    {
-        match segment_text(self.alloc, self.limit, segment) {
-            Ok(text) => Ok(spelled(segment.bytes, text.as_bytes())),
             Err(error) => Err(error),
         }
     }
@@ -310,6 +219,75 @@ impl<P: Admit<A>, A: Allocator + Copy> PolicyJudge<P, A> {
             Action::Control(code) => shows_returns(self.guard.returns) && is_return(*code),
             _ => false,
         }
+    }
+}
+
+// Says what becomes of a segment of whose actions this is known.
+fn verdict_of<A: Allocator + Copy>(
+    alloc: A,
+    limit: usize,
+    segment: Segment<'_>,
+    weighed: Weighed,
+) -> Result<Verdict, AllocError>
+    ensures given { (g : Shape) (gs : List Shape) → AreSegments (g ∷ gs)
+        → IsItem segment.entry g (joined_bytes gs) → IfOk result (λ v. v ≡ record {
+          fate = fate_by weighed segment.entry.kind segment.entry.bytes.now (list_text {A = A}
+              (reading_within (Some limit) g (is_finished g (joined_bytes gs))));
+          before = weighed.last;
+        }) }
+    ensures refused { OnErr result (Refused A) }
+{
+    match fate_of(alloc, limit, segment, weighed) {
+        Ok(fate) => Ok(Verdict {
+            fate,
+            before: weighed.last,
+        }),
+        Err(error) => Err(error),
+    }
+}
+
+// Says what becomes of its bytes.
+fn fate_of<A: Allocator + Copy>(
+    alloc: A,
+    limit: usize,
+    segment: Segment<'_>,
+    weighed: Weighed,
+) -> Result<Fate, AllocError>
+    ensures given { (g : Shape) (gs : List Shape) → AreSegments (g ∷ gs)
+        → IsItem segment.entry g (joined_bytes gs) → IfOk result (λ f. f
+        ≡ fate_by weighed segment.entry.kind segment.entry.bytes.now
+        (list_text {A = A} (reading_within (Some limit) g
+        (is_finished g (joined_bytes gs))))) }
+    ensures refused { OnErr result (Refused A) }
+{
+    if !weighed.has_own {
+        Ok(Fate::Swallowed)
+    } else if !weighed.writes_all {
+        Ok(Fate::LeftOut)
+    } else if is_replaced(segment.kind) {
+        Ok(Fate::Replaced)
+    } else if weighed.shows_some {
+        Ok(Fate::Shown)
+    } else {
+        spelling(alloc, limit, segment)
+    }
+}
+
+// Says what becomes of the bytes of a segment whose text is written.
+fn spelling<A: Allocator + Copy>(
+    alloc: A,
+    limit: usize,
+    segment: Segment<'_>,
+) -> Result<Fate, AllocError>
+    ensures given { (g : Shape) (gs : List Shape) → AreSegments (g ∷ gs)
+        → IsItem segment.entry g (joined_bytes gs) → IfOk result (λ f. f
+        ≡ spelling_of segment.entry.bytes.now (list_text {A = A}
+        (reading_within (Some limit) g (is_finished g (joined_bytes gs))))) }
+    ensures refused { OnErr result (Refused A) }
+{
+    match segment_text(alloc, limit, segment) {
+        Ok(text) => Ok(spelled(segment.bytes, text.as_bytes())),
+        Err(error) => Err(error),
     }
 }
 

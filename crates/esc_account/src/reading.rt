@@ -155,6 +155,32 @@ pub(crate) fn parse_into<A: Allocator + Copy, S: Sink<Action<A>> + Drop>(
     }
 }
 
+/// Gives a sink the actions of a segment: by splitting it, if that is short and memory is not
+/// refused, and else by a parser, which gives them to the other sink, which is the same.
+pub(crate) fn read_into<A: Allocator + Copy, S: Sink<Action<A>> + Drop>(
+    alloc: A,
+    limit: usize,
+    segment: Segment<'_>,
+    sink: S,
+    again: S,
+) -> Result<S, AllocError>
+    requires { S.is_ready sink × (again ≡ sink) }
+    ensures given { (g : Shape) (gs : List Shape) → AreSegments (g ∷ gs)
+        → IsItem segment.entry g (joined_bytes gs)
+        → IfOk result (λ q. FoldsTo (At value_of S.takes) sink
+        (reading_within (Some limit) g (is_finished g (joined_bytes gs))) q) }
+    ensures refused { ((p : S) (a : Action A) (q : S) → S.refuses p a q → Refused A)
+        → OnErr result (Refused A) }
+{
+    if !is_short(limit, segment) {
+        return parse_into(alloc, limit, segment, sink);
+    }
+    match split_into(alloc, limit, segment, sink) {
+        Ok(sink) => Ok(sink),
+        Err(_) => parse_into(alloc, limit, segment, again),
+    }
+}
+
 // The same of bytes that are a stream of their own.
 fn feed_into<A: Allocator + Copy, S: Sink<Action<A>> + Drop>(
     alloc: A,

@@ -13,6 +13,7 @@ use esc_actions::Action;
 use esc_filter::Admit;
 use esc_parse::Sink;
 use esc_segments::SegmentKind;
+use esc_values::CsiParam;
 use std::alloc::{AllocError, Allocator, Global};
 
 /// Weighs the actions of a segment, one after another, by a judge.
@@ -41,8 +42,20 @@ impl<'j, P: Admit<A>, A: Allocator + Copy> Weighing<'j, P, A> {
         }
     }
 
-    fn weigh(&mut self, action: &Action<A>)
-        ensures { Weighs P.admits self.old (value_of action.now) self.new }
+    /// Returns the same value again.
+    pub fn twin(&self) -> Weighing<'j, P, A>
+        ensures { result ≡ self.now }
+    {
+        Weighing {
+            judge: self.judge,
+            before: self.before,
+            kind: self.kind,
+            weighed: self.weighed,
+        }
+    }
+
+    fn weigh(&mut self, action: Action<A>)
+        ensures { Weighs P.admits self.old (value_of action) self.new }
     {
         let Weighed {
             has_own,
@@ -50,14 +63,14 @@ impl<'j, P: Admit<A>, A: Allocator + Copy> Weighing<'j, P, A> {
             shows_some,
             last,
         } = self.weighed;
-        let is_own = is_own(self.kind, action);
-        let writes = self.judge.writes(action);
-        let shows = self.judge.shows(self.before, action);
+        let is_own = is_own(self.kind, &action);
+        let writes = self.judge.writes(&action);
+        let shows = self.judge.shows(self.before, &action);
         self.weighed = Weighed {
             has_own: has_own | is_own,
             writes_all: writes_all & writes,
             shows_some: shows_some | shows,
-            last: self.judge.before_next(last, action),
+            last: self.judge.before_next(last, &action),
         };
     }
 }
@@ -94,8 +107,46 @@ impl<'j, P: Admit<A>, A: Allocator + Copy> Sink<Action<A>> for Weighing<'j, P, A
     ghost refuses = { λ _ _ _. ⊥ };
 
     fn receive(&mut self, action: Action<A>) -> Result<(), AllocError> {
-        self.weigh(&action);
+        self.weigh(action);
         Ok(())
+    }
+
+    // The next methods do as by default, and are written out: at the type of an action, a method
+    // that is taken over from the trait costs a proof some seconds more.
+    #[inline]
+    fn receive_text(&mut self, text: &[u8]) -> Result<(), AllocError> {
+        for b in text {
+            self.weigh(Action::Print(*b as char));
+        }
+        Ok(())
+    }
+
+    #[inline]
+    fn receive_str(&mut self, text: &str) -> Result<(), AllocError> {
+        for c in text.chars() {
+            self.weigh(Action::Print(c));
+        }
+        Ok(())
+    }
+
+    #[inline]
+    fn receive_sequence(
+        &mut self,
+        _params: &[CsiParam],
+        _parameters_truncated: bool,
+        _control: u8,
+    ) -> Result<bool, AllocError> {
+        Ok(false)
+    }
+
+    #[inline]
+    fn drops_sequences(&self, _control: u8) -> bool {
+        false
+    }
+
+    #[inline]
+    fn drops_images(&self) -> bool {
+        false
     }
 
     // Weighs a command whose text tells the policy whether it passes.

@@ -5,7 +5,6 @@ use Rattle.esc_segments.specs.declared.kind.SegmentKind.{SegmentKind}
 use Rattle.esc_osc.specs.Reading.{meaning as command_meant}
 use Rattle.esc_osc.specs.declared.command.OperatingSystemCommand.{OperatingSystemCommand}
 use Rattle.esc_actions.specs.Values.{Value, osc, value_of}
-use Rattle.esc_actions.specs.declared.action.Action.{Action}
 use Rattle.esc_actions.specs.declared.action.Action.TheVariants as action
 use Rattle.esc_parse.specs.Given.{By}
 use Rattle.esc_normal.proofs.Spelling.{IsCommand}

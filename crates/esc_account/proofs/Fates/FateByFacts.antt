@@ -89,6 +89,11 @@ module _ {A : Type 0} (by_lines : Bool) (u : Guard) (admits : Value A → Bool) 
 
 -- ---- weighing by a judge
 
+-- an action makes q of p
+abbrev pub Took : {P A : Type 0} → (P → Value A → Bool) → Weighing P A → Action A → Weighing P A
+    → Type 0
+Took admits p a q = Weighs admits p (value_of a) q
+
 module _ {P A : Type 0} (admits : P → Value A → Bool) (j : PolicyJudge P A) (b : Option ℕ)
     (k : SegmentKind) where
   abbrev By : Weighed → Value A → Weighed

@@ -1,5 +1,5 @@
 -- Renditions of one number, and colours of the palette, pass as they came where renditions do.
-use Rattle.std.proofs.Common.{ℕ, pos, ◌≡◌, ◌<◌, ◌≤◌, ◌^◌, length, Bool, true, false, List, [], ◌∷◌, ◌++◌, codes, Option, Some, inl, inr, arith, refl, ap, sym, ◌∙◌, subst, append-nil, lit≤}
+use Rattle.std.proofs.Common.{ℕ, pos, ◌≡◌, ◌<◌, ◌≤◌, ◌^◌, length, Bool, true, false, List, [], ◌∷◌, ◌++◌, codes, Some, inl, inr, arith, refl, ap, sym, ◌∙◌, subst, append-nil, lit≤}
 use Rattle.std.specs.Prelude.{nat_lt}
 use Rattle.std.specs.Char.{encode_utf8}
 use Rattle.std.specs.Fmt.{decimal}

@@ -1,14 +1,17 @@
 -- A ledger of lines, as it hears of more.
-use Rattle.std.proofs.Common.{ℕ, zero, suc, ◌≡◌, ◌+◌, ◌-◌, ◌<◌, ◌≤◌, Bool, true, false, if◌then◌else◌, List, [], ◌∷◌, ◌++◌, length, take, drop, take-append-drop, refl, sym, ap, ◌∙◌, subst, append_assoc, arith, length-append}
+use Rattle.std.proofs.Common.{ℕ, zero, suc, ◌≡◌, ◌+◌, ◌-◌, ◌<◌, ◌≤◌, Bool, true, false, if◌then◌else◌, List, [], ◌∷◌, ◌++◌, length, take, drop, take-append-drop, Result, Ok, Err, OnOk, refl, sym, ap, ◌∙◌, subst, append_assoc, arith, length-append}
 use Rattle.std.proofs.Math.ListN.{drop_of_length-le}
 use Rattle.std.proofs.Math.Seq.{drop-length, drop-nil}
 use Rattle.std.proofs.lemmas.List.{take_rest}
 use Rattle.esc_filter.specs.Lines.{is_line_feed, has_line_feed, IsLine, begin_with, ends_line, lines}
 use Rattle.esc_filter.proofs.ByLine.BytesOfLines.{feeds_append, line_ends, lines_append, open_line}
-use Rattle.esc_account.specs.Accounts.{Counts, HasRoom, Rule, all_passed, begun}
+use Rattle.esc_account.specs.Accounts.{Counts, HasRoom, Rule, all_passed, begun, total}
 use Rattle.esc_account.specs.Entries.{Entry}
-use Rattle.esc_account.specs.Ledgers.{AreOpen, IsCounted, IsLineAccount, LineEnters, LineGives, LineRuns, LinesRun, PassesSame, Stands, first, others}
+use Rattle.esc_account.specs.Ledgers.{AreOpen, IsCounted, IsLineAccount, Keeps, Leaves, LineEnters, LineGives, LineRuns, LinesRun, PassesSame, Stands, first, others}
 use Rattle.esc_account.specs.declared.account.Account.{Account}
+use Rattle.esc_account.specs.declared.book.Book.{Ghosts as Writer}
+use Rattle.esc_account.specs.declared.judge.Judge.{Ghosts as Ruler}
+use Rattle.esc_account.specs.declared.line_ledger.LineLedger.{LineLedger}
 use Rattle.esc_account.proofs.Lines.AccountOfLines.{as_one, first_open, run_line, run_more, run_same}
 
 -- ---- more comes
@@ -58,6 +61,17 @@ stands_line r P Q x y l w line text s t h is_line is_text enters counts gives =
           counts;
       given = g.2;
     }
+
+-- the same by a call that may fail
+pub line_ended : {T E : Type 0} (result : Result T E) (r : Rule) (P Q : List Entry → Type 0)
+    (x y : Account) (l w line text s t : List ℕ) → Stands r P x (l ++ line) (w ++ text) s t
+    → IsLine l → IsLine w → OnOk result (LineEnters r x l w y) → OnOk result (Counts x (length l) y)
+    → ((es : List Entry) → P es
+    → OnOk result ((fs : List Entry) × LineGives r x l w fs × Q (es ++ fs)))
+    → OnOk result (Stands r Q y line text s t)
+line_ended (Ok v) r P Q x y l w line text s t h is_line is_text enters counts gives =
+    stands_line r P Q x y l w line text s t h is_line is_text enters counts gives
+line_ended (Err e) r P Q x y l w line text s t h is_line is_text enters counts gives = tt
 
 pub stands_same : (r : Rule) (P : List Entry → Type 0) (x : Account) (u line text s t : List ℕ)
     → Stands r P x (u ++ line) (u ++ text) s t → ends_line true u ≡ true → 0 < length u
@@ -289,3 +303,47 @@ stands_end r P x y line text s t u h fs run =
     ∙ lines_append h.written (text ++ u) h.run.text_ends))
     (run_more r begun (lines h.ended) (lines h.written) x h.made (lines line) (lines (text ++ u)) y
     fs h.run.same h.run.run run))
+
+-- the same by a call that may fail
+pub end_told : {T E : Type 0} (result : Result T E) (r : Rule) (P Q : List Entry → Type 0)
+    (x y : Account) (line text s t u : List ℕ) (h : Stands r P x line text s t)
+    → OnOk result ((fs : List Entry) × LinesRun r x (lines line) (lines (text ++ u)) y fs
+    × Q (h.made ++ fs)) → OnOk result (Counts x (length line) y)
+    → OnOk result ((total y.sums ≡ length s)
+    × ((es : List Entry) × IsLineAccount r s (t ++ u) y es × Q es))
+end_told (Ok v) r P Q x y line text s t u h (fs, run, given) counts = (
+  omega (arith, counts.0, h.run.sums, ap length h.whole, length-append h.ended line),
+  (h.made ++ fs, stands_end r P x y line text s t u h fs run, given),
+)
+end_told (Err e) r P Q x y line text s t u h run counts = tt
+
+-- ---- a ledger that has taken more
+
+module _ {J B A : Type 0} (V : Ruler J A) (W : Writer B A) (k q : LineLedger J B A)
+    (s t b u : List ℕ) (line : q.line.items ≡ k.line.items ++ b)
+    (text : q.text.items ≡ k.text.items ++ u) where
+  pub leaves_more : q.account ≡ k.account → q.book ≡ k.book → q.judge ≡ k.judge
+      → Keeps V W k s t → Leaves V W q q.line.items q.text.items (s ++ b) (t ++ u)
+  leaves_more x o j h =
+      subst (λ i. Stands (V.rule i) (W.was_given q.book) q.account q.line.items q.text.items
+      (s ++ b) (t ++ u)) (sym j)
+      (subst (λ i. Stands (V.rule k.judge) (W.was_given i) q.account q.line.items q.text.items
+      (s ++ b) (t ++ u)) (sym o)
+      (subst (λ i. Stands (V.rule k.judge) (W.was_given k.book) i q.line.items q.text.items
+      (s ++ b) (t ++ u)) (sym x)
+      (subst (λ i. Stands (V.rule k.judge) (W.was_given k.book) k.account i q.text.items
+      (s ++ b) (t ++ u)) (sym line)
+      (subst (λ i. Stands (V.rule k.judge) (W.was_given k.book) k.account (k.line.items ++ b) i
+      (s ++ b) (t ++ u)) (sym text)
+      (stands_more (V.rule k.judge) (W.was_given k.book) k.account k.line.items k.text.items s t b
+      u h.0)))))
+
+  -- it has no line feed if neither had one
+  pub opens_more : (k.is_open ≡ true → AreOpen k.line.items k.text.items)
+      → (q.is_open ≡ true → (k.is_open ≡ true) × AreOpen b u)
+      → q.is_open ≡ true → AreOpen q.line.items q.text.items
+  opens_more was is e =
+      let f = is e in
+      subst (λ l. AreOpen l q.text.items) (sym line)
+      (subst (AreOpen (k.line.items ++ b)) (sym text)
+      (open_more k.line.items k.text.items b u (was f.0) f.1))

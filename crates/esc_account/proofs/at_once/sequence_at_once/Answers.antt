@@ -1,4 +1,4 @@
-use Rattle.std.proofs.Common.{◌+◌, length, length-drop, take, drop, refl, ap, subst, arith}
+use Rattle.std.proofs.Common.{◌+◌, length, length-drop, take, refl, ap, subst, arith}
 use Rattle.esc_account.specs.AtOnce.{IsSequence}
 use Rattle.esc_account.proofs.AtOnce.SeenIsFirst.{sequence_seen}
 use Rattle.esc_account.proofs.at_once.sequence_at_once.Goals as goal

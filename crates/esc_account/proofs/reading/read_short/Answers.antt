@@ -1,4 +1,4 @@
-use Rattle.std.proofs.Common.{Some, map, ◌++◌, refl, ap, ◌∙◌}
+use Rattle.std.proofs.Common.{Some, map, ◌++◌, ap, ◌∙◌}
 use Rattle.esc_frame.specs.Segments.{is_finished, joined_bytes}
 use Rattle.esc_actions.specs.Readings.{reading_within}
 use Rattle.esc_actions.specs.Values.{value_of}

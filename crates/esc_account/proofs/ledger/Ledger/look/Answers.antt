@@ -1,4 +1,4 @@
 use Rattle.esc_account.proofs.ledger.Ledger.look.Goals as goal
 
-pub returns-clause-hears : goal.returns-clause-hears
-returns-clause-hears g c = λ s h. c.in_ok-enter_finished.ensures.hears s h
+pub returns-in-Ok-clause-hears : goal.returns-in-Ok-clause-hears
+returns-in-Ok-clause-hears g c = λ s h. c.in-Ok.ensures.hears s h

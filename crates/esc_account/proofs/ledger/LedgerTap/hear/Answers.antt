@@ -15,31 +15,18 @@ returns-then-not-has_room-clause-heard g c = λ s t before few.
     absurd (never c.has_room.result
     (c.has_room.ensures.1 (omega (arith, room, c.len.ensures))) c.if-not-has_room.true)
 
-pub returns-then-waits-clause-heard : goal.returns-then-waits-clause-heard
-returns-then-waits-clause-heard g c = λ s t before few.
+pub returns-in-Ok-clause-heard : goal.returns-in-Ok-clause-heard
+returns-in-Ok-clause-heard g c = λ s t before.
     let k = c.args.self.now in
     let r = g.J.Judge.rule k.judge in
     let b = c.args.bytes.now in
-    let h = before (omega (arith, few, length-append s b)) in (
-      h.0,
-      subst (λ v. Finishes false r begun (s ++ b) v k.account h.0)
-          (sym c.in_ok-extend.ensures.items)
-          (finishes_more r begun k.account s k.rest.items b h.0 h.1),
-      h.2,
-    )
-
-pub returns-clause-heard : goal.returns-clause-heard
-returns-clause-heard g c = λ s t before.
-    let k = c.args.self.now in
-    let r = g.J.Judge.rule k.judge in
-    let b = c.args.bytes.now in
-    ok_given _ _ c.look.result
+    ok_given _ _ c.look_in_time.result
     (λ few.
     let h = before (omega (arith, few, length-append s b)) in
-    c.look.ensures.hears (s ++ b) (
+    c.look_in_time.ensures.hears (s ++ b) (
       h.0,
       subst (λ v. Finishes false r begun (s ++ b) v k.account h.0)
-          (sym c.in_ok-extend.ensures.items)
+          (sym c.in-Ok.ensures.items)
           (finishes_more r begun k.account s k.rest.items b h.0 h.1),
       h.2,
     ))

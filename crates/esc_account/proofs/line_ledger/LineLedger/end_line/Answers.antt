@@ -1,26 +1,29 @@
-use Rattle.std.proofs.Common.{◌≡◌, ◌++◌, subst, sym, ap, ◌∙◌, append_assoc}
+use Rattle.std.proofs.Common.{◌++◌, OnOk, subst, sym, ap, ◌∙◌, append_assoc}
 use Rattle.esc_filter.specs.Lines.{IsLine}
+use Rattle.esc_parse.proofs.Lists.StepsOverLists.{on_ok_more}
 use Rattle.esc_account.specs.Ledgers.{Stands}
-use Rattle.esc_account.proofs.Lines.LedgerHearsMore.{line_more, stands_line}
+use Rattle.esc_account.proofs.Lines.LedgerHearsMore.{line_ended, line_more}
 use Rattle.esc_account.proofs.line_ledger.LineLedger.end_line.Goals as goal
 
-pub returns-clause-leaves : goal.returns-clause-leaves
-returns-clause-leaves g c = λ b u s t none is_line is_text before.
+pub returns-in-Ok-clause-leaves : goal.returns-in-Ok-clause-leaves
+returns-in-Ok-clause-leaves g c = λ b u s t none is_line is_text before.
     let k = c.args.self.now in
+    let q = c.enter_line.new.self in
     let r = g.J.Judge.rule k.judge in
     let P = g.B.Book.was_given k.book in
-    let l = c.deref.result.now in
-    let w = c.deref-2.result.now in
-    let el : l ≡ k.line.items ++ c.args.bytes.now =
-    c.deref.ensures.value ∙ c.in_ok-extend.ensures.items in
-    let ew : w ≡ k.text.items ++ c.args.text.now =
-    c.deref-2.ensures.value ∙ c.in_ok-extend-2.ensures.items in
-    stands_line r P (g.B.Book.was_given c.line_entered.new.book) k.account c.in_ok-self.field-0 l w
-    b u s t
+    let Q = g.B.Book.was_given q.book in
+    let l = c.extend_both.new.line.items in
+    let w = c.extend_both.new.written.items in
+    let m = c.in-Ok.ensures.kept in
+    let enters = c.enter_line.ensures.enters in
+    subst (λ j. OnOk c.enter_line.result (Stands (g.J.Judge.rule j) Q q.account b u s t))
+    (sym c.enter_line.ensures.same.0)
+    (line_ended c.enter_line.result r P Q k.account q.account l w b u s t
     (subst (λ v. Stands r P k.account v (w ++ u) s t)
-    (sym (append_assoc k.line.items c.args.bytes.now b) ∙ ap (λ v. v ++ b) (sym el))
+    (sym (append_assoc k.line.items c.args.bytes.now b) ∙ ap (λ v. v ++ b) (sym m.0))
     (subst (λ v. Stands r P k.account (k.line.items ++ (c.args.bytes.now ++ b)) v s t)
-    (sym (append_assoc k.text.items c.args.text.now u) ∙ ap (λ v. v ++ u) (sym ew)) before))
-    (subst IsLine (sym el) (line_more k.line.items c.args.bytes.now none.0 is_line))
-    (subst IsLine (sym ew) (line_more k.text.items c.args.text.now none.1 is_text))
-    c.in_ok-self.ensures.entered c.in_ok-self.ensures.counts.0 c.in_ok-self.ensures.given
+    (sym (append_assoc k.text.items c.args.text.now u) ∙ ap (λ v. v ++ u) (sym m.1)) before))
+    (subst IsLine (sym m.0) (line_more k.line.items c.args.bytes.now none.0 is_line))
+    (subst IsLine (sym m.1) (line_more k.text.items c.args.text.now none.1 is_text))
+    (on_ok_more _ _ c.enter_line.result (λ v. v.0) enters)
+    (on_ok_more _ _ c.enter_line.result (λ v. v.1) enters) c.enter_line.ensures.given)

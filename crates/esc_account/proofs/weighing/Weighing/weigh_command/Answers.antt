@@ -1,6 +1,5 @@
 use Rattle.std.proofs.Common.{true, ◌&&◌, refl, ap, ◌∙◌}
 use Rattle.esc_account.proofs.Fates.CommandsAreWeighed.{command_weighed}
-use Rattle.esc_account.specs.declared.weighed.Weighed.{Weighed}
 use Rattle.esc_account.proofs.weighing.Weighing.weigh_command.Goals as goal
 
 pub returns : goal.returns
