@@ -13,7 +13,7 @@ ghost use Rattle.fallible_alloc.specs.Refusals.{Refused};
 
 use crate::output::put_text;
 use crate::refusal::Refusal;
-use crate::shown::{display, ended};
+use crate::shown::{displayed, ended};
 use esc_kitty::KittyImage as Image;
 use esc_values::Text;
 use flat_values::{FieldRow, has_image, image_of};
@@ -52,10 +52,11 @@ fn text_of(alloc: Global, kind: u32, fields: &[FieldRow], text: &[u8]) -> Result
         × HasImage kind (fields.now, text.now) (Some i) × (t ≡ image_text i)) }
     ensures refused { IfErr result (λ e. IsRefusal kind (fields.now, text.now) (status_of e)) }
 {
-    let Some(image) = image_of(alloc, kind, fields, text)? else {
-        return Err(Refusal::NoCommand);
-    };
-    Ok(display(alloc, &image)?)
+    match image_of(alloc, kind, fields, text) {
+        Ok(Some(image)) => displayed(alloc, image),
+        Ok(None) => Err(Refusal::NoCommand),
+        Err(_) => Err(Refusal::NoMemory),
+    }
 }
 
 // Returns the rest after `ESC _`.

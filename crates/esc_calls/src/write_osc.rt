@@ -13,7 +13,7 @@ ghost use Rattle.fallible_alloc.specs.Refusals.{Refused};
 use crate::clear::is_clear_text;
 use crate::output::put_text;
 use crate::refusal::Refusal;
-use crate::shown::display;
+use crate::shown::displayed;
 use esc_parse::commands::command_in;
 use esc_values::Text;
 use flat_values::{FieldRow, command_of, has_fields};
@@ -52,10 +52,11 @@ fn text_of(alloc: Global, kind: u32, fields: &[FieldRow], text: &[u8]) -> Result
         × Has kind (fields.now, text.now) c × (t ≡ command_text c)) }
     ensures refused { IfErr result (λ e. IsRefusal kind (fields.now, text.now) (status_of e)) }
 {
-    let Some(command) = command_of(alloc, kind, fields, text)? else {
-        return Err(Refusal::NoCommand);
-    };
-    Ok(display(alloc, &command)?)
+    match command_of(alloc, kind, fields, text) {
+        Ok(Some(command)) => displayed(alloc, command),
+        Ok(None) => Err(Refusal::NoCommand),
+        Err(_) => Err(Refusal::NoMemory),
+    }
 }
 
 // Returns the text between `ESC ]` and `ESC \`.
