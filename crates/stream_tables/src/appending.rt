@@ -1,8 +1,8 @@
 //! Actions that are appended to a list.
-use crate::texts::is_shown;
+use crate::texts::shown;
 use escape_stream::{Action, ControlCode};
 use failing_alloc::Refusing;
-use std::alloc::{Allocator, Global};
+use std::alloc::{AllocError, Allocator, Global};
 
 // Letters, or BEL as a control, which are appended one after another; the Debug text of their list,
 // and that of the list of one of them fewer.
@@ -44,11 +44,28 @@ fn append<A: Allocator + Copy>(list: &mut Vec<Action<A>, A>, c: char) -> bool {
 // and the others give the shorter one.
 fn is_list(alloc: Global, heap: &Refusing<Global>, row: &(&str, &str, &str)) -> bool {
     let (letters, whole, shorter) = *row;
-    let mut list = Vec::new(heap);
-    let refused = append_all(&mut list, letters);
+    let (refused, text) = listed(alloc, heap, letters);
     let is_refused = heap.has_refused();
     let wanted = if is_refused { shorter } else { whole };
-    (refused == usize::from(is_refused)) & is_shown(alloc, list, wanted)
+    (refused == usize::from(is_refused)) & is_text(&text, wanted)
+}
+
+// Appends the letters to a new list, and returns how many came back, and the list's Debug text.
+fn listed<A: Allocator + Copy>(
+    alloc: Global,
+    heap: A,
+    letters: &str,
+) -> (usize, Result<String, AllocError>) {
+    let mut list = Vec::new(heap);
+    let refused = append_all(&mut list, letters);
+    (refused, shown(alloc, list))
+}
+
+fn is_text(text: &Result<String, AllocError>, wanted: &str) -> bool {
+    match text {
+        Ok(text) => text.as_str() == wanted,
+        Err(_) => false,
+    }
 }
 
 // Appends one after another, and returns how many came back.

@@ -115,15 +115,16 @@ fn action_of<A: Allocator + Copy>(alloc: A, what: Made) -> Result<Action<A>, All
 }
 
 // Returns the first request that, refused, makes the answer another one. An error is no other
-// answer.
-fn wrong_request<'a>(
-    heap: &'a Refusing<Global>,
-    action: &Action<&'a Refusing<Global>>,
+// answer. The action takes its memory from `alloc`, which is the heap.
+fn wrong_request<A: Allocator + Copy>(
+    heap: &Refusing<Global>,
+    alloc: A,
+    action: &Action<A>,
     wanted: bool,
 ) -> Option<u64> {
     for at in 1..1000u64 {
         heap.refuse_at(at);
-        let is_right = match is_writable(heap, action) {
+        let is_right = match is_writable(alloc, action) {
             Ok(answer) => answer == wanted,
             Err(_) => heap.has_refused(),
         };
@@ -138,22 +139,28 @@ fn wrong_request<'a>(
 }
 
 // Does the same for an action that was made; 0 if it could not be.
-fn wrong_request_of<'a>(
-    heap: &'a Refusing<Global>,
-    made: &Result<Action<&'a Refusing<Global>>, AllocError>,
+fn wrong_request_of<A: Allocator + Copy>(
+    heap: &Refusing<Global>,
+    alloc: A,
+    made: &Result<Action<A>, AllocError>,
     wanted: bool,
 ) -> Option<u64> {
     match made {
-        Ok(action) => wrong_request(heap, action, wanted),
+        Ok(action) => wrong_request(heap, alloc, action, wanted),
         Err(_) => Some(0),
     }
 }
 
 // Does the same for an action that is made now.
-fn wrong_request_of_made(heap: &Refusing<Global>, what: Made, wanted: bool) -> Option<u64> {
+fn wrong_request_of_made<A: Allocator + Copy>(
+    heap: &Refusing<Global>,
+    alloc: A,
+    what: Made,
+    wanted: bool,
+) -> Option<u64> {
     heap.refuse_at(0);
-    let made = action_of(heap, what);
-    wrong_request_of(heap, &made, wanted)
+    let made = action_of(alloc, what);
+    wrong_request_of(heap, alloc, &made, wanted)
 }
 
 /// Returns whether each action is writable or not, as its row says. With each request for memory
@@ -162,7 +169,7 @@ pub fn are_told(alloc: Global) -> bool {
     let heap = Refusing::new(alloc);
     let mut is_right = true;
     for (what, wanted) in &MADE {
-        is_right &= wrong_request_of_made(&heap, *what, *wanted).is_none();
+        is_right &= wrong_request_of_made(&heap, &heap, *what, *wanted).is_none();
     }
     is_right
 }

@@ -57,11 +57,11 @@ impl<A: Allocator + Copy> BorrowingSink<Action<A>> for Appending<A> {
     }
 }
 
-// Returns that of the actions of a stream, appended from their borrowed place; and whether that
-// ended rightly: with an error only if a request was refused.
-fn appended(
+// Returns that of the actions of a stream, appended from their borrowed place, and whether the call
+// succeeded.
+fn appended<A: Allocator + Copy>(
     alloc: Global,
-    heap: &Refusing<Global>,
+    heap: A,
     bytes: &[u8],
 ) -> (Result<String, AllocError>, bool) {
     let sink = Appending {
@@ -69,8 +69,10 @@ fn appended(
         actions: Vec::new(heap),
     };
     let (result, sink) = parse_borrowed_into(&mut Parser::new(heap), bytes, sink);
-    let is_right = result.is_ok() != heap.has_refused();
-    (shown(alloc, Ok::<_, ParseError>(sink.actions)), is_right)
+    (
+        shown(alloc, Ok::<_, ParseError>(sink.actions)),
+        result.is_ok(),
+    )
 }
 
 // Returns whether the text of a list is this one, or, if it may end early, that of the first of its
@@ -83,10 +85,12 @@ fn is_list(text: &str, whole: &str, ends_early: bool) -> bool {
 }
 
 // Returns whether the actions of a stream, appended from their borrowed place, are those of this
-// text; or, if a request was refused, the first of them.
+// text; or, if a request was refused, and the call failed for it, the first of them.
 fn are_appended(alloc: Global, heap: &Refusing<Global>, bytes: &[u8], meant: &str) -> bool {
     match &appended(alloc, heap, bytes) {
-        (Ok(text), true) => is_list(text.as_str(), meant, heap.has_refused()),
+        (Ok(text), is_whole) if *is_whole != heap.has_refused() => {
+            is_list(text.as_str(), meant, heap.has_refused())
+        }
         _ => false,
     }
 }
