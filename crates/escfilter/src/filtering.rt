@@ -18,14 +18,14 @@ use crate::recording::{Cut, Fault, Recording, filter_recording};
 use crate::report::tell_text;
 use crate::rows::Rows;
 use crate::script::Script;
-use crate::text_filter::TextFilter;
+use crate::scripted::{Scripted, Timed};
 use crate::told::Told;
 use command_line::{Ended, ErrorCapture, Place, Reason, Work, ended_by, unwritten};
-use esc_account::Account;
+use esc_account::{Account, Book};
 use esc_decode::{ByteOrder, Input};
-use esc_filter::{FilterError, StreamFilter};
+use esc_filter::{Admit, FilterError, StreamFilter};
 use esc_normal::Watched;
-use esc_sanitize::{Auditor, Sanitized, sanitize_stream};
+use esc_sanitize::{Auditor, FilterOptions, Sanitized, sanitize_stream, sanitizing};
 use std::alloc::Global;
 use std::io::{Read, Write};
 
@@ -153,16 +153,40 @@ impl<'a, W: Write, E: Write> Filtering<'a, W, E> {
         input: R,
         events: Option<Events>,
     ) -> (Ended, bool, Option<Events>) {
-        let feeding = TextFilter::new(self.alloc, self.options, events);
-        let (read, feeding) = match format {
+        let rows = Rows::new(self.alloc, self.options, events);
+        let (read, auditor) = self.sanitize_recording(self.options.filter, rows, format, input);
+        self.end_recording(name, read, auditor)
+    }
+
+    // Filters a recording by these options with this book, and returns the outcome, and the account
+    // of the stream of its text.
+    fn sanitize_recording<P: Admit<Global> + Copy + Drop, B: Book<Global> + Drop, R: Read + Drop>(
+        &mut self,
+        options: FilterOptions<P>,
+        book: B,
+        format: Format,
+        input: R,
+    ) -> (Outcome, Auditor<P, B>) {
+        let filter = sanitizing(self.alloc, options, book);
+        let (read, filter) = self.read_by(format, filter, input);
+        (read, filter.into_auditor())
+    }
+
+    // Filters a recording by this filter of its text, and returns the outcome, and the filter.
+    fn read_by<F: StreamFilter<Global> + Drop, R: Read + Drop>(
+        &mut self,
+        format: Format,
+        feeding: F,
+        input: R,
+    ) -> (Outcome, F) {
+        match format {
             Format::Cast => self.read_cast(feeding, input),
             Format::Frames => self.read_frames(feeding, input),
             Format::Typescript => self.read_script(feeding, input),
-        };
-        self.end_recording(name, read, feeding.into_auditor())
+        }
     }
 
-    // Filters a recording of asciinema by this filter, and returns the outcome, and the filter.
+    // Filters a recording of asciinema, and returns the same.
     fn read_cast<F: StreamFilter<Global> + Drop, R: Read + Drop>(
         &mut self,
         feeding: F,
@@ -186,17 +210,29 @@ impl<'a, W: Write, E: Write> Filtering<'a, W, E> {
     }
 
     // Filters a typescript, and returns the same.
-    fn read_script<R: Read + Drop>(
+    fn read_script<F: StreamFilter<Global> + Drop, R: Read + Drop>(
         &mut self,
-        feeding: TextFilter<'a>,
+        feeding: F,
         input: R,
-    ) -> (Outcome, TextFilter<'a>) {
+    ) -> (Outcome, F) {
         let timing = self.told.timing.take();
-        let mut script = Script::new(self.alloc, feeding, self.options.timing, timing);
-        let outcome = self.read_recording(&mut script, None, input);
-        let (timing, feeding) = script.into_parts();
-        self.told.timing = timing;
+        let script = Script::new(self.alloc, self.options.timing, timing);
+        let (outcome, feeding, script) = self.read_timed(feeding, script, input);
+        self.told.timing = script.into_timing();
         (outcome, feeding)
+    }
+
+    // Filters a typescript by this timing, and returns the outcome, the filter and the timing.
+    fn read_timed<F: StreamFilter<Global> + Drop, T: Timed, R: Read + Drop>(
+        &mut self,
+        feeding: F,
+        timing: T,
+        input: R,
+    ) -> (Outcome, F, T) {
+        let mut scripted = Scripted::new(feeding, timing);
+        let outcome = self.read_recording(&mut scripted, None, input);
+        let (timing, feeding) = scripted.into_parts();
+        (outcome, feeding, timing)
     }
 
     // Reads a recording to its end.

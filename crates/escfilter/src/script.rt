@@ -1,11 +1,11 @@
-//! Filters typescripts of script(1) by their timing.
+//! The timing of typescripts of script(1).
 
 use crate::aside::Aside;
-use crate::recording::{Cut, Fault, MEMORY, Recording, write};
-use crate::text_filter::TextFilter;
+use crate::recording::{Fault, MEMORY};
+use crate::scripted::Timed;
 use command_line::Shown;
-use dump_time::{TimeError, Typescript};
-use esc_filter::{FilterError, StreamFilter};
+use dump_time::{Run, TimeError, Typescript};
+use esc_filter::FilterError;
 use esc_normal::Watched;
 use memchr::memchr;
 use std::alloc::Global;
@@ -18,59 +18,49 @@ const SECOND: u64 = 1_000_000;
 // The first line of a typescript is kept up to this many bytes.
 const MOST: usize = 4096;
 
-/// A filter of a typescript of script(1), which comes in chunks, by its timing. It makes a new
-/// typescript and a new timing in the form of the old one. The first line stays, escaped. The words
-/// that the user typed are left out, and so are the bytes that the timing does not count.
+/// The timing of a typescript of script(1), and the new one, in the form of the old one. The first
+/// line of the typescript stays, escaped. The words that the user typed are left out, and so are
+/// the bytes that the timing does not count.
 #[derive(Drop)]
 pub struct Script<'a> {
-    feeding: TextFilter<'a>,
     typescript: Typescript<'a>,
     // the unfinished first line; none after its end
     first: Option<Vec<u8>>,
     // the beginning of an entry of output in the timing
     mark: &'static str,
-    // the time of the last entry of the new timing, and that of the last output
+    // the time of the last entry of the new timing
     told: u64,
-    time: u64,
     // the file of the new timing
     timing: Option<Aside>,
 }
 
 impl<'a> Script<'a> {
-    /// The beginning of a typescript with this timing, for a new filter. The headers of the new
-    /// timing go to its file.
-    pub fn new(
-        alloc: Global,
-        feeding: TextFilter<'a>,
-        timing: &'a [u8],
-        aside: Option<Aside>,
-    ) -> Script<'a> {
+    /// The beginning of a typescript with this timing. The headers of the new timing go to its
+    /// file.
+    pub fn new(alloc: Global, timing: &'a [u8], aside: Option<Aside>) -> Script<'a> {
         Script {
-            feeding,
             typescript: Typescript::new(timing, false),
             first: Some(Vec::new(alloc)),
             mark: mark_of(timing),
             told: 0,
-            time: 0,
             timing: with_headers(timing, aside),
         }
     }
 
-    /// The file of the new timing, and the filter of the whole typescript.
-    pub fn into_parts(self) -> (Option<Aside>, TextFilter<'a>) {
+    /// The file of the new timing.
+    pub fn into_timing(self) -> Option<Aside> {
         let Script {
-            feeding,
             typescript: _,
             first: _,
             mark: _,
             told: _,
-            time: _,
             timing,
         } = self;
-        (timing, feeding)
+        timing
     }
+}
 
-    // Takes bytes of the first line, and writes the line at its end.
+impl<'a> Timed for Script<'a> {
     fn take_first<W: Write>(&mut self, bytes: &[u8], writer: &mut Watched<W>) -> Result<(), Fault> {
         let Some(mut first) = self.first.take() else {
             return Ok(());
@@ -88,81 +78,28 @@ impl<'a> Script<'a> {
         }
     }
 
-    // Filters output of this time, and writes the result.
-    fn hear<W: Write>(
-        &mut self,
-        time: u64,
-        text: &[u8],
-        writer: &mut Watched<W>,
-    ) -> Result<(), Fault> {
-        self.time = time;
-        match self.feeding.feed(text) {
-            Ok(()) => self.write_added(writer),
-            Err(_) => Err(MEMORY),
-        }
+    fn next<'b>(&mut self, bytes: &'b [u8]) -> Result<Option<Run<'b>>, TimeError> {
+        self.typescript.next(bytes)
     }
 
-    // Writes the output of the last bytes, with an entry in the new timing.
-    fn write_added<W: Write>(&mut self, writer: &mut Watched<W>) -> Result<(), Fault> {
-        let added = self.feeding.output();
-        let count = added.len();
-        write(writer, added.as_bytes())?;
-        if count > 0 {
-            self.tell(count);
-        }
-        Ok(())
-    }
-
-    // Adds an entry for this number of bytes to the new timing.
-    fn tell(&mut self, count: usize) {
+    fn tell(&mut self, time: u64, count: usize) {
         let mark = self.mark;
-        let delay = self.time.saturating_sub(self.told);
-        self.told = self.time;
+        let delay = time.saturating_sub(self.told);
+        self.told = time;
         let (seconds, micros) = (delay / SECOND, delay % SECOND);
         if let Some(timing) = &mut self.timing {
             let _ = writeln!(timing, "{mark}{seconds}.{micros:06} {count}");
         }
     }
 
-    // Writes the held entries of the new timing.
-    fn flush_timing(&mut self) {
+    fn flush(&mut self) {
         if let Some(timing) = &mut self.timing {
             let _ = timing.flush();
         }
     }
-}
 
-impl<'a> Recording for Script<'a> {
-    fn take<W: Write>(&mut self, bytes: &[u8], writer: &mut Watched<W>) -> Result<(), Fault> {
-        self.take_first(bytes, writer)?;
-        let mut rest = bytes;
-        for _ in 0..u64::MAX {
-            let run = match self.typescript.next(rest) {
-                Ok(Some(run)) => run,
-                Ok(None) => break,
-                Err(error) => return Err(Fault::Timing(error)),
-            };
-            if run.is_asked {
-                self.hear(run.time, run.text, writer)?;
-            }
-            rest = run.rest;
-        }
-        self.flush_timing();
-        Ok(())
-    }
-
-    fn end<W: Write>(&mut self, writer: &mut Watched<W>) -> Result<Option<Cut>, Fault> {
-        let cut = match self.typescript.finish() {
-            Ok(()) => None,
-            Err(TimeError::Short) => Some(Cut::Timing),
-            Err(error) => return Err(Fault::Timing(error)),
-        };
-        match self.feeding.finish() {
-            Ok(()) => self.write_added(writer)?,
-            Err(_) => return Err(MEMORY),
-        }
-        self.flush_timing();
-        Ok(cut)
+    fn finish(&mut self) -> Result<(), TimeError> {
+        self.typescript.finish()
     }
 }
 
