@@ -155,7 +155,7 @@ impl<J: Judge<A>, B: Book<A>, A: Allocator> LineLedger<J, B, A> {
         }
     }
 
-    // Enters what is kept as one line.
+    // Enters the kept bytes as one line.
     fn enter_line(&mut self) -> Result<(), AllocError>
         requires { HasRoom self.old.account (length self.old.line.items) }
         ensures enters { OnOk result (LineEnters (J.rule self.old.judge) self.old.account
@@ -216,7 +216,7 @@ impl<J: Judge<A>, B: Book<A>, A: Allocator> LineLedger<J, B, A> {
         }
     }
 
-    // Enters the lines that come whole in what is kept.
+    // Enters the whole lines of the kept bytes.
     fn enter_kept(&mut self) -> Result<(), AllocError>
         requires { HasRoom self.old.account (length self.old.line.items) }
         ensures keeps { (s t : List ℕ) → Leaves J.Judge B.Book self.old self.old.line.items
@@ -237,7 +237,7 @@ impl<J: Judge<A>, B: Book<A>, A: Allocator> LineLedger<J, B, A> {
         }
     }
 
-    // Enters all lines of what is kept.
+    // Enters all lines of the kept bytes.
     fn enter_rest(&mut self) -> Result<(), AllocError>
         requires { HasRoom self.old.account (length self.old.line.items) }
         ensures run { (es : List Told) → B.was_given self.old.book es → OnOk result
