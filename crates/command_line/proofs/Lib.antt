@@ -1,5 +1,4 @@
 mod Words
-mod OptionIn
 mod ShownWords
 mod Bits
 mod Units
