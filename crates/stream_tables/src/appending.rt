@@ -1,5 +1,5 @@
 //! Actions that are appended to a list.
-use crate::texts::shown;
+use crate::texts::{is_text, shown};
 use escape_stream::{Action, ControlCode};
 use failing_alloc::Refusing;
 use std::alloc::{AllocError, Allocator, Global};
@@ -59,13 +59,6 @@ fn listed<A: Allocator + Copy>(
     let mut list = Vec::new(heap);
     let refused = append_all(&mut list, letters);
     (refused, shown(alloc, list))
-}
-
-fn is_text(text: &Result<String, AllocError>, wanted: &str) -> bool {
-    match text {
-        Ok(text) => text.as_str() == wanted,
-        Err(_) => false,
-    }
 }
 
 // Appends one after another, and returns how many came back.

@@ -4,7 +4,7 @@ use crate::reading::Reading;
 use crate::report::Report;
 use crate::spelling::spelled;
 use crate::stream::Stream;
-use crate::texts::{encoded, shown, written};
+use crate::texts::{encoded, is_text, shown, written};
 use escape_stream::{Collect, ParseError, Parser, Watched, is_normal, normalise};
 use failing_alloc::Refusing;
 use std::alloc::{AllocError, Allocator, Global};
@@ -93,7 +93,7 @@ impl Asked {
         report: &mut Report,
     ) -> usize {
         let result = self.result(alloc, heap, at, stream);
-        let is_error = heap.has_refused() & (text_of(&result) == "Err(Memory)");
+        let is_error = heap.has_refused() & is_text(&result, "Err(Memory)");
         let wanted = if is_error { "Err(Memory)" } else { wanted };
         let what = "a refused request changes the result";
         report.expect(stream.name, what, wanted, result);
@@ -161,7 +161,7 @@ fn checked<A: Allocator + Copy>(
     text: Result<String, AllocError>,
     parser: &mut Parser<A>,
 ) -> Result<String, AllocError> {
-    if text_of(&text) == "Err(Memory)" && !has_failed(alloc, parser) {
+    if is_text(&text, "Err(Memory)") && !has_failed(alloc, parser) {
         return String::from_str(alloc, "a parser that goes on after a refusal");
     }
     text

@@ -1,5 +1,6 @@
 //! Links of many parameters. This ends in time only if the work for a parameter grows with the
 //! logarithm of their number.
+use crate::texts::is_text;
 use escape_stream::{encode, parse_chunks};
 use std::alloc::{AllocError, Global};
 
@@ -22,14 +23,7 @@ fn link_of_keys(alloc: Global, falls: bool) -> Result<String, AllocError> {
 // Returns whether the text that is written for the stream is this text.
 fn is_written(alloc: Global, stream: &str, text: &str) -> bool {
     match parse_chunks(alloc, &[stream.as_bytes()]) {
-        Ok(actions) => is_text(encode(alloc, &actions), text),
-        Err(_) => false,
-    }
-}
-
-fn is_text<E: Drop>(written: Result<String, E>, text: &str) -> bool {
-    match written {
-        Ok(written) => written.as_str() == text,
+        Ok(actions) => is_text(&encode(alloc, &actions), text),
         Err(_) => false,
     }
 }

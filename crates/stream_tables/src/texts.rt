@@ -10,7 +10,12 @@ pub fn shown<T: Debug + Drop>(alloc: Global, value: T) -> Result<String, AllocEr
 
 /// Returns whether this is the Debug text of a value.
 pub fn is_shown<T: Debug + Drop>(alloc: Global, value: T, wanted: &str) -> bool {
-    match format!(in alloc; "{value:?}") {
+    is_text(&shown(alloc, value), wanted)
+}
+
+/// Returns whether a text was written, and is this one.
+pub fn is_text<E: Drop>(written: &Result<String, E>, wanted: &str) -> bool {
+    match written {
         Ok(text) => text.as_str() == wanted,
         Err(_) => false,
     }
