@@ -158,9 +158,8 @@ pub(crate) fn is_address<A: Allocator>(parts: &[Items<u8, A>]) -> bool
     }
 }
 
-/// Returns the text of a link, or of the end of one, that is seen at once to be one: a plain link,
-/// as
-/// `esc_write` says, of bytes 20 to 7E.
+/// Returns the text of a link, or of the end of one, that is seen at once to be one: a plain link
+/// of bytes 20 to 7E, as `esc_write` says.
 #[tactic(auto, using(crate::proofs::Admission::PlainLinksAreLinks::plain_is_link))]
 #[inline]
 pub(crate) fn clean_link<A: Allocator>(text: &[u8]) -> Option<&str>

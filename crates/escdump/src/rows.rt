@@ -33,9 +33,8 @@ pub fn find_row<'t>(
 }
 
 /// Returns the rest of a text after a key, if it begins with that: after a `;` or a `=`, or
-/// nothing. A key
-/// `-` is that of no text, `++` of one of three parts or more, one that ends with `+` of a text
-/// that has more after it, and one that ends with `.` of a text that has not.
+/// nothing. A key `-` is that of no text, `++` of one of three parts or more, one that ends with
+/// `+` of a text that has more after it, and one that ends with `.` of a text that has not.
 pub fn key_rest<'t>(key: &'static str, text: Option<&'t [u8]>) -> Option<Option<&'t [u8]>> {
     if key.is_empty() {
         return Some(text);

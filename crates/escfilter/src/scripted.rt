@@ -7,7 +7,7 @@ use esc_normal::Watched;
 use std::alloc::Global;
 use std::io::Write;
 
-/// The timing of a typescript, and the new one of what is written.
+/// Reads the timing of a typescript, and writes the timing of its output.
 pub trait Timed: Drop {
     /// Takes bytes of the first line, and writes the line at its end.
     fn take_first<W: Write>(&mut self, bytes: &[u8], writer: &mut Watched<W>) -> Result<(), Fault>;
@@ -26,8 +26,8 @@ pub trait Timed: Drop {
     fn finish(&mut self) -> Result<(), TimeError>;
 }
 
-/// A filter of a typescript, which comes in chunks. `F` filters the stream of its output, and `T`
-/// has its timing.
+/// Filters a typescript, which comes in chunks. `F` filters the stream of its output, and `T` reads
+/// its timing.
 #[derive(Drop)]
 pub struct Scripted<F, T> {
     feeding: F,
