@@ -1,4 +1,5 @@
 pub mod Parts
+pub mod Turned
 pub mod Sound
 pub mod Whole
 pub mod Printing

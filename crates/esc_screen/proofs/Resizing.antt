@@ -7,7 +7,7 @@ use Rattle.esc_screen.specs.Cells.{blank, blank_row, cut_row}
 use Rattle.esc_screen.specs.Cursors.{eighths}
 use Rattle.esc_screen.specs.Grids.{Grid, Size, row_of_cursor}
 use Rattle.esc_screen.specs.Halves.{AreWhole, HasWholeRows}
-use Rattle.esc_screen.specs.Resized.{KeepsLine, ResizesSound, ResizesWhole, cursor_within, fitted_grid, is_same_size, leaving_rows, resized_each, resized_row, resized_rows, resized_tabs, rows_left}
+use Rattle.esc_screen.specs.Resized.{KeepsLine, ResizesSound, ResizesWhole, cursor_within, fitted_grid, is_same_size, leaving_rows, refitted_grid, resized_each, resized_grid, resized_row, resized_rows, resized_tabs, rows_left}
 use Rattle.esc_screen.specs.Sound.{AreWide, IsFull, IsOn, IsSound}
 use Rattle.esc_screen.specs.declared.cell.Cell.{Cell}
 use Rattle.esc_screen.specs.declared.cursor.Cursor.{Cursor}
@@ -197,3 +197,18 @@ keeps_line s t g rows h = by_test (is_same_size s t) refl
         ≡ resized_row t.columns (row_of_cursor g)
     by_test true e = same e
     by_test false e = line_fitted s t g rows h
+
+-- ---- the rows of a screen that gets another size
+
+pub refits : (s t : Size) (g h : Grid) (k : ℕ) (rs os : List (List Cell)) (ts : List Bool)
+    → is_same_size s t ≡ false → k ≡ leaving_rows t.rows g → h ≡ refitted_grid t rs os ts g
+    → rs ≡ rows_left t k g.rows → os ≡ rows_left t k g.other
+    → ts ≡ resized_tabs t.columns g.tabs → h ≡ resized_grid s t g
+refits s t g h k rs os ts other gone is seen hidden stops =
+    is
+    ∙ ap (λ xs. refitted_grid t xs os ts g) seen
+    ∙ ap (λ xs. refitted_grid t (rows_left t k g.rows) xs ts g) hidden
+    ∙ ap (λ bs. refitted_grid t (rows_left t k g.rows) (rows_left t k g.other) bs g) stops
+    ∙ ap (λ n. refitted_grid t (rows_left t n g.rows) (rows_left t n g.other)
+    (resized_tabs t.columns g.tabs) g) gone
+    ∙ sym (ap (λ b. if b then g else fitted_grid t g) other)

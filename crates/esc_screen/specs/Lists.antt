@@ -13,6 +13,13 @@ moved_up n f xs = drop n xs ++ f (take n xs)
 abbrev pub moved_down : {X : Type 0} → ℕ → (List X → List X) → List X → List X
 moved_down n f xs = f (drop (length xs - n) xs) ++ take (length xs - n) xs
 
+-- the first so many come last; and the last so many first
+abbrev pub turned_up : {X : Type 0} → ℕ → List X → List X
+turned_up n xs = drop n xs ++ take n xs
+
+abbrev pub turned_down : {X : Type 0} → ℕ → List X → List X
+turned_down n xs = drop (length xs - n) xs ++ take (length xs - n) xs
+
 -- a function applied so many times
 abbrev pub times : {X : Type 0} → ℕ → (X → X) → X → X
 times zero f x = x

@@ -47,18 +47,26 @@ leaving_rows m g = g.cursor.row + 1 - m
 abbrev pub rows_left : Size → ℕ → List (List Cell) → List (List Cell)
 rows_left s k rs = resized_rows s.rows s.columns (drop k rs)
 
--- a grid of this size: it has no margins, and rows are counted from the first one
-abbrev pub fitted_grid : Size → Grid → Grid
-fitted_grid s g = record g {
-  rows = rows_left s (leaving_rows s.rows g) g.rows;
-  other = rows_left s (leaving_rows s.rows g) g.other;
+-- a grid of this size with these rows, those of the screen that is not seen, and tab stops: it has
+-- no margins, and rows are counted from the first one
+abbrev pub refitted_grid :
+    Size → List (List Cell) → List (List Cell) → List Bool → Grid → Grid
+refitted_grid s rs os ts g = record g {
+  rows = rs;
+  other = os;
   cursor = record (cursor_within s.rows s.columns g.cursor) { origin = false };
   saved = cursor_within s.rows s.columns g.saved;
   other_saved = cursor_within s.rows s.columns g.other_saved;
   top = 0;
   bottom = s.rows;
-  tabs = resized_tabs s.columns g.tabs;
+  tabs = ts;
 }
+
+abbrev pub fitted_grid : Size → Grid → Grid
+fitted_grid s g = refitted_grid s
+    (rows_left s (leaving_rows s.rows g) g.rows)
+    (rows_left s (leaving_rows s.rows g) g.other)
+    (resized_tabs s.columns g.tabs) g
 
 abbrev pub is_same_size : Size → Size → Bool
 is_same_size s t = s.rows == t.rows && s.columns == t.columns

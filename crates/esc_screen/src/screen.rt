@@ -14,6 +14,7 @@ use crate::row::Row;
 use crate::step::Step;
 use crate::{rows, tabs};
 use std::alloc::{AllocError, Allocator, Global};
+use std::collections::VecDeque;
 
 mod areas;
 mod changing;
@@ -27,8 +28,8 @@ mod setting;
 /// alternate one; the cursor; margins, modes and tab stops.
 #[derive(Drop)]
 pub struct Screen<A: Allocator = Global> {
-    rows: Vec<Row<A>, A>,
-    other: Vec<Row<A>, A>,
+    rows: VecDeque<Row<A>, A>,
+    other: VecDeque<Row<A>, A>,
     alternate: bool,
     cursor: Cursor,
     saved: Cursor,
@@ -122,8 +123,8 @@ impl<A: Allocator> Screen<A> {
     }
 
     // The rows of the main screen.
-    fn main_rows(&self) -> &[Row<A>]
-        ensures { result.now ≡ main_rows (grid_of self.now) }
+    fn main_rows(&self) -> &VecDeque<Row<A>, A>
+        ensures { result.now.items ≡ main_rows (grid_of self.now) }
     {
         if self.alternate {
             &self.other

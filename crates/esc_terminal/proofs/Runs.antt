@@ -1,10 +1,10 @@
 -- A run of characters is what each of them, one after another, does.
-use Rattle.std.proofs.Common.{ℕ, suc, ◌≡◌, ◌<◌, ◌≤◌, true, false, Result, Ok, Err, OnErr, inl, inr, Bool, List, [], ◌∷◌, length, map, get_or, refl, ap, sym, subst, ◌∙◌, append-nil, if◌then◌else◌, arith}
+use Rattle.std.proofs.Common.{ℕ, suc, ◌≡◌, ◌<◌, ◌≤◌, true, false, Result, Ok, Err, OnErr, inl, inr, Bool, List, [], ◌∷◌, ◌++◌, length, map, take, drop, get_or, refl, ap, sym, subst, ◌∙◌, append-nil, if◌then◌else◌, arith}
 use Rattle.std.specs.List.{FoldsTo, list_all}
-use Rattle.std.specs.Vec.{with_items}
+use Rattle.std.specs.VecDeque.{deque_with_items}
 use Rattle.std.proofs.lemmas.Bool.{and_parts, true≢false}
 use Rattle.std.proofs.lemmas.Bool.Decides.{nat_tests}
-use Rattle.std.proofs.lemmas.List.{with_items_is}
+use Rattle.std.proofs.Math.Seq.{take-append_seam}
 use Rattle.memchr.specs.Find.{is_byte}
 use Rattle.fallible_alloc.specs.Refusals.{Refused}
 use Rattle.unicode_width.specs.Width.{char_width}
@@ -35,10 +35,16 @@ one_more c p =
     let h = narrow_printed (size_of p.screen) c (grid_of p.screen) in
     record p {
       screen = record (p.screen) {
-        rows = with_items p.screen.rows h.rows;
+        rows = deque_with_items p.screen.rows h.rows;
         cursor = h.cursor;
       };
     }
+
+refilled : {X : Type 0} (n : ℕ) (xs ws : List X) → length ws ≡ n
+    → take n (ws ++ drop (length ws) xs) ≡ ws
+refilled n xs ws e =
+    ap (λ k. take k (ws ++ drop (length ws) xs)) (sym e)
+    ∙ take-append_seam ws (drop (length ws) xs)
 
 one_grid : {A : Type 0} (c : ℕ) (p : State A) → grid_of (one_more c p).screen
     ≡ narrow_printed (size_of p.screen) c (grid_of p.screen)
@@ -47,7 +53,7 @@ one_grid c p =
     let h = narrow_printed (size_of p.screen) c g in
     let k = kept_narrow (size_of p.screen) c g in
     ap (λ x. record g { rows = x; cursor = h.cursor })
-    (with_items_is p.screen.rows h.rows (k.count ∙ sym p.screen.rows.ok.0))
+    (refilled p.screen.rows.len p.screen.rows.items h.rows (k.count ∙ sym p.screen.rows.ok.0))
     ∙ sym k.rest
 
 first_taken : {A : Type 0} (c : ℕ) (p q : State A) → has_column c ≡ true

@@ -1,12 +1,14 @@
 //! Another size.
 ghost use Rattle.std.specs.Prelude.{◌≡◌, OnErr, OnOk};
-ghost use Rattle.esc_screen.specs.Resized.{Resizes, leaving_rows};
+ghost use Rattle.esc_screen.specs.Resized.{Resizes, is_same_size, leaving_rows, refitted_grid, size_with};
 ghost use Rattle.esc_screen.specs.Screens.{grid_of, size_of};
 ghost use Rattle.fallible_alloc.specs.Refusals.{Refused};
 
+use crate::row::Row;
 use crate::screen::Screen;
 use crate::{rows, tabs};
 use std::alloc::{AllocError, Allocator};
+use std::collections::VecDeque;
 
 impl<A: Allocator> Screen<A> {
     /// Counts the rows that [`resize`](Self::resize) to so many rows takes off the top of the main
@@ -31,15 +33,41 @@ impl<A: Allocator + Copy> Screen<A> {
         ensures unchanged { OnErr result (self.new ≡ self.old) }
         ensures refused { OnErr result (Refused A) }
     {
-        if rows == self.max_rows && columns == self.max_columns {
+        if self.has_size(rows, columns) {
             return Ok(());
         }
-        let alloc = *self.rows.allocator();
         let gone = self.leaving_rows(rows);
         let (count, width) = (rows as usize, columns as usize);
-        let seen = rows::left(&self.rows, alloc, gone, count, width)?;
-        let other = rows::left(&self.other, alloc, gone, count, width)?;
-        let tabs = tabs::resized(&self.tabs, alloc, width)?;
+        let seen = rows::left(&self.rows, gone, count, width)?;
+        let other = rows::left(&self.other, gone, count, width)?;
+        let tabs = tabs::resized(&self.tabs, *self.rows.allocator(), width)?;
+        self.refit(rows, columns, seen, other, tabs);
+        Ok(())
+    }
+}
+
+impl<A: Allocator> Screen<A> {
+    fn has_size(&self, rows: u16, columns: u16) -> bool
+        ensures { result
+            ≡ is_same_size (size_of self.now) (size_with rows columns (size_of self.now)) }
+    {
+        self.max_rows == rows && self.max_columns == columns
+    }
+
+    // Gives it so many rows and columns, with these rows, those of the screen that is not seen, and
+    // tab stops.
+    fn refit(
+        &mut self,
+        rows: u16,
+        columns: u16,
+        seen: VecDeque<Row<A>, A>,
+        other: VecDeque<Row<A>, A>,
+        tabs: Vec<bool, A>,
+    )
+        ensures grid { grid_of self.new ≡ refitted_grid (size_with rows columns (size_of self.old))
+            seen.items other.items tabs.items (grid_of self.old) }
+        ensures size { size_of self.new ≡ size_with rows columns (size_of self.old) }
+    {
         self.rows = seen;
         self.other = other;
         self.tabs = tabs;
@@ -51,6 +79,5 @@ impl<A: Allocator + Copy> Screen<A> {
         self.bottom = rows;
         self.max_rows = rows;
         self.max_columns = columns;
-        Ok(())
     }
 }

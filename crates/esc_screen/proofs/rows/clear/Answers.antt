@@ -1,18 +1,20 @@
-use Rattle.std.proofs.Common.{map, take, drop, ◌++◌, ◌-◌, ◌<◌, ◌≤◌, length, get_or, set, ap, sym, ◌∙◌, arith, rules}
+use Rattle.std.proofs.Common.{◌≡◌, ◌<◌, [], length, arith}
 use Rattle.esc_screen.specs.Cells.{cleared_cells}
-use Rattle.esc_screen.proofs.Printing.MiddlesOfRows.{change_more}
+use Rattle.esc_screen.proofs.Turned.{one_changed, whole_changed}
 use Rattle.esc_screen.proofs.rows.clear.Goals as goal
 
 pub loop-i-preserved : goal.loop-i-preserved
 loop-i-preserved g c =
-    let i = c.loop-i.i in
-    let xs = c.args.rows.now in
-    let f = cleared_cells c.args.look in
-    let less : i < length xs = search rules in
-    let from : 0 ≤ i = omega arith in
-    let x = c.index-rows-i.result in
-    ap (λ ys. set ys i c.clear.new.self) c.loop-i.invariant
-    ∙ ap (λ y. set (take 0 xs ++ (map f (take (i - 0) (drop 0 xs)) ++ drop i xs)) i y)
-    (c.clear.ensures ∙ ap f (sym c.index-rows-i.is))
-    ∙ change_more f 0 i x xs from less
-    (c.index-rows-i.is ∙ ap (λ ys. get_or ys i x) c.loop-i.invariant)
+    let xs = c.args.rows.now.items in
+    let less : c.loop-i.i < length xs = omega (arith, c.loop-i-test.true, c.len-i-end.ensures) in
+    one_changed (cleared_cells c.args.look)
+    0 c.loop-i.i [] xs c.loop-i.rows.items c.clear_row.new.rows.items (omega arith) less
+    c.loop-i.invariant c.clear_row.ensures
+
+pub returns : goal.returns
+returns g c =
+    let xs = c.args.rows.now.items in
+    let len : c.len-i-end.result ≡ length xs = omega (arith, c.len-i-end.ensures) in
+    whole_changed (cleared_cells c.args.look)
+    c.len-i-end.result c.loop-i.i xs c.loop-i.rows.items len c.loop-i.far-i
+    c.loop-i-test.false c.loop-i.invariant

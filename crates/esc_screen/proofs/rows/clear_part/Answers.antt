@@ -1,16 +1,33 @@
-use Rattle.std.proofs.Common.{map, refl}
+use Rattle.std.proofs.Common.{◌≡◌, ◌<◌, [], length, map, min, refl, ap, ◌∙◌, arith}
 use Rattle.esc_screen.specs.Cells.{cleared_cells}
-use Rattle.esc_screen.proofs.Parts.{in_part_is, in_no_part}
+use Rattle.esc_screen.proofs.Parts.{in_no_part}
+use Rattle.esc_screen.proofs.Turned.{all_changed, one_changed}
 use Rattle.esc_screen.proofs.rows.clear_part.Goals as goal
 
-pub returns-then-from-end : goal.returns-then-from-end
-returns-then-from-end g c =
-    in_part_is (map (cleared_cells c.args.look))
-    c.args.from c.args.to c.min-end.result c.args.rows.now c.clear.new.rows c.min-end.ensures
-    c.clear.ensures
+pub loop-i-preserved : goal.loop-i-preserved
+loop-i-preserved g c =
+    let xs = c.args.rows.now.items in
+    let less : c.loop-i.i < length xs = omega (
+      arith,
+      c.loop-i-test.true,
+      c.min-end.ensures,
+      c.len.ensures,
+    ) in
+    one_changed (cleared_cells c.args.look)
+    c.args.from c.loop-i.i [] xs c.loop-i.rows.items c.clear_row.new.rows.items c.loop-i.near-i less
+    c.loop-i.invariant c.clear_row.ensures
+
+pub returns-after-loop-i : goal.returns-after-loop-i
+returns-after-loop-i g c =
+    let len : c.len.result ≡ length c.args.rows.now.items = omega (arith, c.len.ensures) in
+    all_changed (cleared_cells c.args.look)
+    c.args.from c.args.to c.min-end.result c.loop-i.i c.args.rows.now.items c.loop-i.rows.items
+    (c.min-end.ensures ∙ ap (min c.args.to) len)
+    c.if-from-end.true c.loop-i.far-i c.loop-i-test.false c.loop-i.invariant
 
 pub returns-else-from-end : goal.returns-else-from-end
 returns-else-from-end g c =
+    let len : c.len.result ≡ length c.args.rows.now.items = omega (arith, c.len.ensures) in
     in_no_part (map (cleared_cells c.args.look))
-    c.args.from c.args.to c.min-end.result c.args.rows.now
-    refl c.min-end.ensures c.if-from-end.false
+    c.args.from c.args.to c.min-end.result c.args.rows.now.items refl
+    (c.min-end.ensures ∙ ap (min c.args.to) len) c.if-from-end.false

@@ -1,16 +1,34 @@
-use Rattle.std.proofs.Common.{map, refl}
+use Rattle.std.proofs.Common.{◌≡◌, ◌<◌, [], length, map, min, refl, ap, ◌∙◌, arith}
 use Rattle.esc_screen.specs.Cells.{filled_part}
-use Rattle.esc_screen.proofs.Parts.{in_part_is, in_no_part}
+use Rattle.esc_screen.proofs.Parts.{in_no_part}
+use Rattle.esc_screen.proofs.Turned.{all_changed, one_changed}
 use Rattle.esc_screen.proofs.rows.fill_area.Goals as goal
 
-pub returns-then-from-end : goal.returns-then-from-end
-returns-then-from-end g c =
-    in_part_is (map (filled_part c.args.cell c.args.left c.args.right))
-    c.args.from c.args.to c.min-end.result c.args.rows.now c.fill_columns.new.rows c.min-end.ensures
-    c.fill_columns.ensures
+pub loop-i-preserved : goal.loop-i-preserved
+loop-i-preserved g c =
+    let xs = c.args.rows.now.items in
+    let less : c.loop-i.i < length xs = omega (
+      arith,
+      c.loop-i-test.true,
+      c.min-end.ensures,
+      c.len.ensures,
+    ) in
+    one_changed (filled_part c.args.cell c.args.left c.args.right)
+    c.args.from c.loop-i.i [] xs c.loop-i.rows.items c.fill_row_part.new.rows.items
+    c.loop-i.near-i less
+    c.loop-i.invariant c.fill_row_part.ensures
+
+pub returns-after-loop-i : goal.returns-after-loop-i
+returns-after-loop-i g c =
+    let len : c.len.result ≡ length c.args.rows.now.items = omega (arith, c.len.ensures) in
+    all_changed (filled_part c.args.cell c.args.left c.args.right)
+    c.args.from c.args.to c.min-end.result c.loop-i.i c.args.rows.now.items c.loop-i.rows.items
+    (c.min-end.ensures ∙ ap (min c.args.to) len)
+    c.if-from-end.true c.loop-i.far-i c.loop-i-test.false c.loop-i.invariant
 
 pub returns-else-from-end : goal.returns-else-from-end
 returns-else-from-end g c =
+    let len : c.len.result ≡ length c.args.rows.now.items = omega (arith, c.len.ensures) in
     in_no_part (map (filled_part c.args.cell c.args.left c.args.right))
-    c.args.from c.args.to c.min-end.result c.args.rows.now
-    refl c.min-end.ensures c.if-from-end.false
+    c.args.from c.args.to c.min-end.result c.args.rows.now.items refl
+    (c.min-end.ensures ∙ ap (min c.args.to) len) c.if-from-end.false

@@ -1,18 +1,23 @@
-use Rattle.std.proofs.Common.{map, refl}
+use Rattle.std.proofs.Common.{◌≡◌, length, map, min, refl, ap, ◌∙◌, arith}
 use Rattle.esc_screen.specs.Cells.{cleared_cells}
 use Rattle.esc_screen.specs.Lists.{moved_up}
-use Rattle.esc_screen.proofs.Parts.{in_part_is, in_no_part, up_none}
+use Rattle.esc_screen.proofs.Parts.{in_no_part, up_none}
+use Rattle.esc_screen.proofs.Turned.{part_up_is}
 use Rattle.esc_screen.proofs.rows.part_up.Goals as goal
 
 pub returns-then-from-end : goal.returns-then-from-end
 returns-then-from-end g c =
-    in_part_is (moved_up c.args.count (map (cleared_cells c.args.look)))
-    c.args.from c.args.to c.min-end.result c.args.rows.now c.move_up.new.rows c.min-end.ensures
-    c.move_up.ensures
+    let len : c.len.result ≡ length c.args.rows.now.items = omega (arith, c.len.ensures) in
+    part_up_is (map (cleared_cells c.args.look))
+    c.args.from c.args.to c.min-end.result c.args.count c.min-count.result c.args.rows.now.items
+    c.turn_up.new.rows.items c.clear_part.new.rows.items
+    (c.min-end.ensures ∙ ap (min c.args.to) len)
+    c.if-from-end.true c.min-count.ensures c.turn_up.ensures c.clear_part.ensures
 
 pub returns-else-from-end : goal.returns-else-from-end
 returns-else-from-end g c =
+    let len : c.len.result ≡ length c.args.rows.now.items = omega (arith, c.len.ensures) in
     in_no_part (moved_up c.args.count (map (cleared_cells c.args.look)))
-    c.args.from c.args.to c.min-end.result c.args.rows.now
+    c.args.from c.args.to c.min-end.result c.args.rows.now.items
     (up_none c.args.count (map (cleared_cells c.args.look)) refl)
-    c.min-end.ensures c.if-from-end.false
+    (c.min-end.ensures ∙ ap (min c.args.to) len) c.if-from-end.false
