@@ -104,9 +104,9 @@ finishes o s old new h none goes options k =
           (subst (λ y. HasEnded admitter y new.sanitizer) (sym whole) k.0, options ∙ h.options);
     }
 
--- it was fed x, the last UTF-8 of the stream, and then its stream has ended; both texts are kept
+-- it was fed the last UTF-8 of the stream, and then its stream has ended; both texts are kept
 pub closes : (o : Settings) (s x : List ℕ) (old new : SanitizerState)
-    (fed again last : Sanitizing) → IsClosing o s old → x ≡ string_bytes old.text
+    (fed again last : Sanitizing) → IsClosing o s old → x ≡ old.decoded.items
     → HasConsumed chain admitter (going_bytes o.order s ++ x) fed
     × (going_of admitter (options_of old.sanitizer) (going_bytes o.order s ++ x)
     ≡ going_of admitter (options_of old.sanitizer) (going_bytes o.order s) ++ added_by chain fed)
@@ -114,7 +114,8 @@ pub closes : (o : Settings) (s x : List ℕ) (old new : SanitizerState)
     → (HasConsumed chain admitter (going_bytes o.order s ++ x) again
     → HasEnded admitter (going_bytes o.order s ++ x) last
     × (text_of admitter (options_of again) (going_bytes o.order s ++ x)
-    ≡ going_of admitter (options_of again) (going_bytes o.order s ++ x) ++ added_by chain last))
+    ≡ going_of admitter (options_of again) (going_bytes o.order s ++ x)
+    ++ added_by chain last))
     → options_of last ≡ options_of again → new.sanitizer ≡ last → new.is_closing ≡ true
     → string_bytes new.text ≡ added_by chain fed ++ added_by chain last
     → Finishes o s new

@@ -46,11 +46,11 @@ pub record IsFed (o : Settings) (s : List ℕ) (z : SanitizerState) : Type 0 whe
   pub decoder : z.decoder ≡ decoder_after o.order s
   pub goes_on : z.is_closing ≡ false
 
--- its text is the last UTF-8 of the stream s, which the sanitizer is not fed yet
+-- it has the last UTF-8 of the stream s, which the sanitizer is not fed yet
 pub record IsClosing (o : Settings) (s : List ℕ) (z : SanitizerState) : Type 0 where
   pub fed : HasConsumed chain admitter (going_bytes o.order s) z.sanitizer
   pub options : options_of z.sanitizer ≡ o.filter
-  pub rest : whole_bytes o.order s ≡ going_bytes o.order s ++ string_bytes z.text
+  pub rest : whole_bytes o.order s ≡ going_bytes o.order s ++ z.decoded.items
 
 -- the stream s has ended: the text completes that of s, and the account is that of s
 pub record Finishes (o : Settings) (s : List ℕ) (z : SanitizerState) : Type 0 where

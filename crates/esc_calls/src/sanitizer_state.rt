@@ -19,9 +19,10 @@ pub struct SanitizerState {
     pub sanitizer: Sanitizer<Groups<'static>>,
     // the decoder of a stream in UTF-16 that goes on
     decoder: Option<Utf16Decoder>,
-    // the UTF-8 of the last chunk, or the text that the end of the stream added
+    // the last bytes that it gave
+    decoded: Vec<u8>,
+    // the text that the end of the stream added, if it has
     text: String,
-    // whether it is the latter
     is_closing: bool,
 }
 
@@ -33,6 +34,7 @@ impl SanitizerState {
         SanitizerState {
             sanitizer: Sanitizer::new(alloc, settings.filter),
             decoder: decoder_of(settings.order),
+            decoded: Vec::new(alloc),
             text: String::new(alloc),
             is_closing: false,
         }
@@ -49,12 +51,12 @@ impl SanitizerState {
         let Some(mut decoder) = self.decoder else {
             return self.sanitizer.feed(bytes);
         };
-        self.text.clear();
-        let Ok(()) = decoder.push(bytes, &mut self.text) else {
+        self.decoded.clear();
+        let Ok(()) = decoder.push(bytes, &mut self.decoded) else {
             return Err(ParseError::Memory);
         };
         self.decoder = Some(decoder);
-        self.sanitizer.feed(self.text.as_bytes())
+        self.sanitizer.feed(&self.decoded)
     }
 
     /// Ends the stream.
@@ -68,8 +70,8 @@ impl SanitizerState {
             return self.sanitizer.finish();
         };
         self.decoder = None;
-        self.text.clear();
-        let Ok(()) = decoder.end(&mut self.text) else {
+        self.decoded.clear();
+        let Ok(()) = decoder.end(&mut self.decoded) else {
             return Err(ParseError::Memory);
         };
         let Ok(()) = self.close() else {
@@ -78,15 +80,15 @@ impl SanitizerState {
         Ok(())
     }
 
-    // Gives the sanitizer the last UTF-8 of the stream, which is the text, and ends the stream. It
-    // keeps the text that both add.
+    // Gives the sanitizer the last bytes of the decoder, and ends the stream. It keeps the text
+    // that both add.
     fn close(&mut self) -> Result<(), AllocError>
         ensures ended { (o : Settings) (s : List ℕ) → IsClosing o s self.old
             → OnOk result (Finishes o s self.new) }
         ensures refused { (o : Settings) (s : List ℕ) → IsClosing o s self.old
             → OnErr result (Refused Global) }
     {
-        let Ok(()) = self.sanitizer.feed(self.text.as_bytes()) else {
+        let Ok(()) = self.sanitizer.feed(&self.decoded) else {
             return Err(AllocError);
         };
         self.text.clear();

@@ -1,17 +1,19 @@
 -- Characters stay.
-use Rattle.std.proofs.Common.{ℕ, ◌≡◌, ◌+◌, ◌/◌, ◌%◌, ◌<◌, ◌≤◌, inl, inr, ◌&&◌, nat_lt, true, false, List, [], ◌∷◌, ◌++◌, arith, refl, ap, sym, ◌∙◌, subst}
+use Rattle.std.proofs.Common.{ℕ, ◌≡◌, ◌+◌, ◌/◌, ◌%◌, ◌<◌, ◌≤◌, inl, inr, ◌&&◌, Bool, nat_lt, true, false, if◌then◌else◌, List, [], ◌∷◌, ◌++◌, arith, refl, ap, sym, ◌∙◌, subst}
 use Rattle.std.proofs.lemmas.Bool.Decides.{nat_tests}
 use Rattle.std.proofs.lemmas.Bool.{and_parts, cases_lt}
 use Rattle.std.proofs.lemmas.List.{append-nil}
 use Rattle.std.proofs.lemmas.Str.{encode_ascii}
 use Rattle.std.specs.Char.{encode_utf8}
-use Rattle.std.specs.Str.{IsUtf8, encode_utf8_all}
-use lib.Utf8.{scalar, scalars}
+use Rattle.std.specs.Str.{IsUtf8}
+use lib.Utf8.{scalar}
 use Rattle.esc_frame.proofs.Cut.WellFormedIsUtf8.{four_is, none_five, none_none, none_one, spells_clear, three_is, two_is}
 use Rattle.esc_frame.specs.Sequences.{is_from, is_prefix, is_second, is_sequence, is_tail}
 use Rattle.esc_decode.specs.Masks.{Stay, begun_after, masked_bytes, masked_after}
 use Rattle.esc_decode.proofs.Masks.{low_step}
-use Rattle.esc_decode.proofs.Outcomes.{is_more, is_whole, more_step, no_sequence, whole_step}
+use Rattle.esc_decode.specs.Spellings.{spell_all, spelling}
+use Rattle.esc_decode.proofs.Spelled.{spells_all}
+use Rattle.esc_decode.proofs.Outcomes.{is_more, is_whole, mask_step, more_step, no_sequence, whole_step}
 
 -- ---- the prefixes of a sequence
 
@@ -142,16 +144,21 @@ character_leaves c s = elim (cases_lt c 128) [
   ]
 ]
 
-characters_stay : (cs : List ℕ) → scalars cs ≡ true → Stay (encode_utf8_all cs)
-characters_stay [] h = (refl, refl)
-characters_stay (c ∷ cs) h =
-    let k = and_parts (scalar c) (scalars cs) h in
-    let one = character_leaves c k.0 (encode_utf8_all cs) in
-    let more = characters_stay cs k.1 in
-    (one.0 ∙ ap (λ y. encode_utf8 c ++ y) more.0, one.1 ∙ more.1)
+spelling_leaves : (n : ℕ) (t : Bool) → scalar n ≡ t
+    → LeaveBegun (if t then encode_utf8 n else 0xff ∷ []) []
+spelling_leaves n true e = character_leaves n e
+spelling_leaves n false e = mask_step []
+
+-- and FF in place of one that is not there
+pub spelled_stays : (ns : List ℕ) → Stay (spell_all ns)
+spelled_stays [] = (refl, refl)
+spelled_stays (n ∷ ns) =
+    let one = spelling_leaves n (scalar n) refl (spell_all ns) in
+    let more = spelled_stays ns in
+    (one.0 ∙ ap (λ y. spelling n ++ y) more.0, one.1 ∙ more.1)
 
 pub utf8_stays : (s : List ℕ) → IsUtf8 s → Stay s
-utf8_stays s u = subst Stay u.1.1 (characters_stay u.0 u.1.0)
+utf8_stays s u = subst Stay (spells_all u.0 u.1.0 ∙ u.1.1) (spelled_stays u.0)
 
 pub text_stays : (s : List ℕ) → IsUtf8 s → masked_bytes s ≡ s
 text_stays s u = (utf8_stays s u).0

@@ -1,6 +1,7 @@
 pub mod Blocks
 pub mod Outcomes
 pub mod Masks
+pub mod Spelled
 pub mod Characters
 pub mod Raw
 pub mod Reading

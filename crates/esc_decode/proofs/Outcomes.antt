@@ -99,3 +99,16 @@ nothing_begun b = by (is_prefix (b ∷ [])) refl
     by true e = ap (next_begun [] b) (is_more [] b (no_sequence b) e)
         ∙ sym (ap (λ t. if t then b ∷ [] else []) e)
     by false e = ap (next_begun [] b) (none_broken b e)
+
+-- FF stays, and begins nothing
+mask_begun : first_begun 0xff ≡ []
+unfolding is_prefix
+mask_begun = refl
+
+pub mask_step : (f s : List ℕ) → (masked_after f (0xff ∷ s) ≡ 0xff ∷ masked_after [] s)
+    × (begun_after f (0xff ∷ s) ≡ begun_after [] s)
+mask_step f s = let e = outcome_mask f in (
+  ap (λ o. masked_byte 0xff o ∷ masked_after (next_begun f 0xff o) s) e
+      ∙ ap (λ g. 0xff ∷ masked_after g s) mask_begun,
+  ap (λ o. begun_after (next_begun f 0xff o) s) e ∙ ap (λ g. begun_after g s) mask_begun,
+)

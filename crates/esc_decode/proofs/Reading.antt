@@ -1,28 +1,32 @@
 -- Bytes of an 8-bit encoding as characters.
-use Rattle.std.proofs.Common.{ℕ, ◌≡◌, ◌<◌, ◌≤◌, ◌-◌, ◌+◌, ◌/◌, ◌%◌, Bool, true, false, nat_lt, if◌then◌else◌, List, [], ◌∷◌, ◌++◌, map, get_or, arith, refl, ap, ◌∙◌}
+use Rattle.std.proofs.Common.{ℕ, ◌≡◌, ◌<◌, ◌≤◌, ◌-◌, ◌+◌, ◌/◌, ◌%◌, true, false, nat_lt, if◌then◌else◌, List, [], ◌∷◌, ◌++◌, map, get_or, arith, refl, ap, sym, ◌∙◌}
 use Rattle.std.specs.List.{list_all}
 use Rattle.std.specs.Char.{encode_utf8}
-use Rattle.std.specs.Str.{IsAscii, IsUtf8, encode_utf8_all}
+use Rattle.std.specs.Str.{IsAscii, IsUtf8}
 use Rattle.std.proofs.lemmas.Bool.Decides.{nat_tests}
 use Rattle.std.proofs.lemmas.Bool.{and_parts}
 use Rattle.std.proofs.lemmas.List.{map-append}
-use Rattle.std.proofs.lemmas.Str.{IsAscii-drop, encode_ascii, encodes-append}
-use lib.Utf8.{scalar, scalars}
+use Rattle.std.proofs.lemmas.Str.{IsAscii-drop}
+use lib.Utf8.{scalars}
 use Rattle.esc_frame.specs.Scans.{is_text_byte}
-use Rattle.esc_decode.specs.Pages.{character_in, read_by, read_in, scalar_or, table_of}
+use Rattle.esc_decode.specs.Pages.{has_character, point_in, read_by, read_in, table_of}
+use Rattle.esc_decode.specs.Spellings.{no_character, spell_all, spelling}
+use Rattle.esc_decode.specs.Masks.{masked_bytes}
+use Rattle.esc_decode.proofs.Characters.{spelled_stays}
+use Rattle.esc_decode.proofs.Spelled.{spell_append, spells_all, spells_ascii}
 use Rattle.esc_decode.specs.declared.code_page.CodePage.{CodePage}
 
 pub read_append : (t x y : List ℕ) → read_in t (x ++ y) ≡ read_in t x ++ read_in t y
-read_append t x y = ap encode_utf8_all (map-append (character_in t) x y)
-    ∙ encodes-append (map (character_in t) x) (map (character_in t) y)
+read_append t x y = ap spell_all (map-append (point_in t) x y)
+    ∙ spell_append (map (point_in t) x) (map (point_in t) y)
 
 -- ---- ASCII
 
-low : (t : List ℕ) (b : ℕ) → b < 0x80 → encode_utf8 (character_in t b) ≡ b ∷ []
+low : (t : List ℕ) (b : ℕ) → b < 0x80 → spelling (point_in t b) ≡ b ∷ []
 low t b l =
     let k : nat_lt b 0x80 ≡ true = grind (arith, nat_tests) in
-    ap (λ x. encode_utf8 (if x then b else scalar_or (get_or t (b - 0x80) 0xfffd))) k
-    ∙ encode_ascii b l
+    ap (λ x. spelling (if x then b else get_or t (b - 0x80) no_character)) k
+    ∙ spells_ascii b l
 
 text_low : (b : ℕ) → is_text_byte b ≡ true → b < 0x80
 text_low b h = grind (arith, nat_tests)
@@ -60,29 +64,22 @@ encode_three n l h =
     let three : nat_lt n 65536 ≡ true = grind (arith, nat_tests) in
     rw (one, two, three) refl
 
--- ---- the text that is read is UTF-8
+-- ---- the text that is read
 
-scalar_of : (n : ℕ) → scalar (scalar_or n) ≡ true
-scalar_of n = by (scalar n) refl
-  where
-    by : (t : Bool) → scalar n ≡ t → scalar (if t then n else 0xfffd) ≡ true
-    by true e = e
-    by false e = refl
+all_scalars : (p : CodePage) (s : List ℕ) → list_all (has_character p) s ≡ true
+    → scalars (map (point_in (table_of p)) s) ≡ true
+all_scalars p [] h = refl
+all_scalars p (b ∷ s) h =
+    let k = and_parts (has_character p b) (list_all (has_character p) s) h in
+    rw (k.0, all_scalars p s k.1) refl
 
-pub character_scalar : (t : List ℕ) (b : ℕ) → scalar (character_in t b) ≡ true
-character_scalar t b = by (nat_lt b 0x80) refl
-  where
-    by : (k : Bool) → nat_lt b 0x80 ≡ k
-        → scalar (if k then b else scalar_or (get_or t (b - 0x80) 0xfffd)) ≡ true
-    by true e = grind (arith, nat_tests)
-    by false e = scalar_of (get_or t (b - 0x80) 0xfffd)
+pub read_is_text : (p : CodePage) (s : List ℕ) → list_all (has_character p) s ≡ true
+    → IsUtf8 (read_by p s)
+read_is_text p s h = let ns = map (point_in (table_of p)) s in let k = all_scalars p s h in
+    (ns, (k, sym (spells_all ns k)))
 
-all_scalars : (t s : List ℕ) → scalars (map (character_in t) s) ≡ true
-all_scalars t [] = refl
-all_scalars t (b ∷ s) = rw (character_scalar t b, all_scalars t s) refl
-
-pub read_is_text : (p : CodePage) (s : List ℕ) → IsUtf8 (read_by p s)
-read_is_text p s = (map (character_in (table_of p)) s, (all_scalars (table_of p) s, refl))
+pub read_stays : (p : CodePage) (s : List ℕ) → masked_bytes (read_by p s) ≡ read_by p s
+read_stays p s = (spelled_stays (map (point_in (table_of p)) s)).0
 
 pub ascii_by : (p : CodePage) (s : List ℕ) → IsAscii s → read_by p s ≡ s
 ascii_by p s h = read_ascii (table_of p) s h

@@ -1,8 +1,8 @@
 -- A stream of UTF-16 in chunks.
 use Rattle.std.proofs.Common.{ℕ, ◌≡◌, ◌++◌, ◌∷◌, ◌∙◌, Bool, List, [], Option, None, Some, refl, sym, ap}
 use Rattle.std.proofs.lemmas.List.{append_assoc}
-use Rattle.std.proofs.lemmas.Str.{encodes-append}
-use Rattle.std.specs.Str.{encode_utf8_all}
+use Rattle.esc_decode.proofs.Spelled.{spell_append}
+use Rattle.esc_decode.specs.Spellings.{spell_all}
 use Rattle.esc_decode.specs.declared.utf16.Utf16.{Utf16}
 use Rattle.esc_decode.specs.Units.{unit_text, after, unit_utf8, given_after, unit_left, left_after, odd_after, unit, units_after}
 
@@ -47,9 +47,9 @@ after_append u s t =
 pub added_append : (u : Utf16) (s t : List ℕ)
     → unit_text u (s ++ t) ≡ unit_text u s ++ unit_text (after u s) t
 added_append u s t =
-    ap (λ us. encode_utf8_all (given_after u.high us)) (units_append u.is_little u.odd s t)
-    ∙ ap encode_utf8_all (given_append u.high (units_after u.is_little u.odd s)
+    ap (λ us. spell_all (given_after u.high us)) (units_append u.is_little u.odd s t)
+    ∙ ap spell_all (given_append u.high (units_after u.is_little u.odd s)
     (units_after u.is_little (odd_after u.odd s) t))
-    ∙ encodes-append (given_after u.high (units_after u.is_little u.odd s))
+    ∙ spell_append (given_after u.high (units_after u.is_little u.odd s))
     (given_after (left_after u.high (units_after u.is_little u.odd s))
     (units_after u.is_little (odd_after u.odd s) t))

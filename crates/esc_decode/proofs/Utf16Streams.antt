@@ -1,9 +1,11 @@
 -- A stream of UTF-16 by its byte order mark, in chunks.
 use Rattle.std.proofs.Common.{ℕ, ◌≡◌, ◌++◌, ◌∷◌, ◌∙◌, Bool, true, false, List, [], Option, None, Some, Result, Ok, Err, OnOk, refl, sym, ap}
-use Rattle.std.proofs.lemmas.Str.{encodes-append}
-use Rattle.std.specs.Str.{encode_utf8_all}
+use Rattle.esc_decode.proofs.Spelled.{spell_append}
+use Rattle.esc_decode.specs.Spellings.{spell_all}
 use Rattle.esc_decode.proofs.Units.{added_append, after_append}
-use Rattle.esc_decode.specs.Units.{after, characters, cut_short, fresh_units, left_after, mark_of, odd_after, unit_text, units_after}
+use Rattle.esc_decode.specs.Masks.{masked_bytes}
+use Rattle.esc_decode.proofs.Characters.{spelled_stays}
+use Rattle.esc_decode.specs.Units.{after, all_code_points, code_points, cut_short, fresh_units, left_after, mark_of, odd_after, unit_text, units_after}
 use Rattle.esc_decode.specs.Utf16Streams.{DecodesMore, LeavesUnits, awaits_mark, decoder_by, decoder_of, going_text, may_begin_mark, by_order, ordered_by, ordered_by_mark, text_by, whole_text}
 use Rattle.esc_decode.specs.declared.byte_order.ByteOrder.{ByteOrder}
 use Rattle.esc_decode.specs.declared.byte_order.ByteOrder.TheVariants.{Little, Big, Marked}
@@ -74,9 +76,14 @@ pushed k s b rest d l = record {
 
 pub ended : (k : ByteOrder) (s : List ℕ) (d : Utf16Decoder) → d ≡ decoder_of k s
     → whole_text k s
-    ≡ going_text k s ++ encode_utf8_all (cut_short d.units.odd d.units.high)
+    ≡ going_text k s ++ spell_all (cut_short d.units.odd d.units.high)
 ended k s d e =
     let o = by_order k s in
-    encodes-append (characters o.0 o.1)
+    spell_append (code_points o.0 o.1)
     (cut_short (odd_after None o.1) (left_after None (units_after o.0 None o.1)))
-    ∙ ap (λ v. going_text k s ++ encode_utf8_all (cut_short v.units.odd v.units.high)) (sym e)
+    ∙ ap (λ v. going_text k s ++ spell_all (cut_short v.units.odd v.units.high)) (sym e)
+
+-- ---- the text
+
+pub text_stays : (k : ByteOrder) (s : List ℕ) → masked_bytes (whole_text k s) ≡ whole_text k s
+text_stays k s = let o = by_order k s in (spelled_stays (all_code_points o.0 o.1)).0

@@ -1,4 +1,5 @@
 pub mod Masks
+pub mod Spellings
 pub mod Pages
 pub mod Decodings
 pub mod Units

@@ -1,6 +1,6 @@
 -- A stream of UTF-16 as UTF-8.
 use Rattle.std.specs.Prelude.{ℕ, ◌+◌, ◌*◌, ◌%◌, nat_le, nat_lt, ◌==◌, ◌&&◌, Bool, false, true, if◌then◌else◌, List, [], ◌∷◌, ◌++◌, Option, None, Some}
-use Rattle.std.specs.Str.{encode_utf8_all}
+use Rattle.esc_decode.specs.Spellings.{no_character, spell_all}
 use Rattle.esc_decode.specs.declared.utf16.Utf16.{Utf16}
 
 -- ---- units
@@ -21,7 +21,7 @@ odd_after odd [] = odd
 odd_after None (b ∷ s) = odd_after (Some b) s
 odd_after (Some a) (b ∷ s) = odd_after None s
 
--- ---- characters
+-- ---- code points
 
 -- the first and the second unit of a pair
 abbrev pub is_high : ℕ → Bool
@@ -34,14 +34,14 @@ is_low u = nat_le 0xdc00 u && nat_lt u 0xe000
 abbrev pub pair : ℕ → ℕ → ℕ
 pair h l = 0x10000 + 0x400 * (h % 0x400) + l % 0x400
 
--- the characters that a unit ends, if this first one of a pair has come before it: one that is no
--- part of a pair is U+FFFD
+-- The code points that a unit ends, if this first one of a pair has come before it. One that is no
+-- part of a pair is a surrogate, and so no character.
 abbrev pub given_alone : ℕ → List ℕ
-given_alone u = if is_high u then [] else if is_low u then 0xfffd ∷ [] else u ∷ []
+given_alone u = if is_high u then [] else u ∷ []
 
 abbrev pub unit_utf8 : Option ℕ → ℕ → List ℕ
 unit_utf8 None u = given_alone u
-unit_utf8 (Some h) u = if is_low u then pair h u ∷ [] else 0xfffd ∷ given_alone u
+unit_utf8 (Some h) u = if is_low u then pair h u ∷ [] else h ∷ given_alone u
 
 -- the first one of a pair that is left after it
 abbrev pub left_alone : ℕ → Option ℕ
@@ -60,24 +60,24 @@ abbrev pub left_after : Option ℕ → List ℕ → Option ℕ
 left_after h [] = h
 left_after h (u ∷ us) = left_after (unit_left h u) us
 
--- an unfinished unit or pair at the end of a stream is one U+FFFD
+-- an unfinished unit or pair at the end of a stream is no character
 abbrev pub cut_short : Option ℕ → Option ℕ → List ℕ
 cut_short None None = []
-cut_short _ _ = 0xfffd ∷ []
+cut_short _ _ = no_character ∷ []
 
 -- ---- streams
 
--- the characters that are known of a stream that goes on
-abbrev pub characters : Bool → List ℕ → List ℕ
-characters little s = given_after None (units_after little None s)
+-- the code points that are known of a stream that goes on
+abbrev pub code_points : Bool → List ℕ → List ℕ
+code_points little s = given_after None (units_after little None s)
 
 -- and of one that has ended
-abbrev pub all_characters : Bool → List ℕ → List ℕ
-all_characters little s = characters little s
+abbrev pub all_code_points : Bool → List ℕ → List ℕ
+all_code_points little s = code_points little s
     ++ cut_short (odd_after None s) (left_after None (units_after little None s))
 
 abbrev pub utf16_text : Bool → List ℕ → List ℕ
-utf16_text little s = encode_utf8_all (characters little s)
+utf16_text little s = spell_all (code_points little s)
 
 -- whether the lower byte of a unit comes first by these two, if they are a byte order mark
 abbrev pub mark_of : ℕ → ℕ → Option Bool
@@ -102,4 +102,4 @@ after u s = record {
 
 -- the text that they add
 abbrev pub unit_text : Utf16 → List ℕ → List ℕ
-unit_text u s = encode_utf8_all (given_after u.high (units_after u.is_little u.odd s))
+unit_text u s = spell_all (given_after u.high (units_after u.is_little u.odd s))

@@ -1,7 +1,7 @@
 -- A stream of UTF-16, of which a byte order mark may say the order of bytes, as UTF-8.
 use Rattle.std.specs.Prelude.{ℕ, ◌≡◌, Bool, true, false, List, [], ◌∷◌, ◌++◌, Option, None, Some}
-use Rattle.std.specs.Str.{encode_utf8_all}
-use Rattle.esc_decode.specs.Units.{after, all_characters, fresh_units, mark_of, unit_text, utf16_text}
+use Rattle.esc_decode.specs.Spellings.{spell_all}
+use Rattle.esc_decode.specs.Units.{after, all_code_points, fresh_units, mark_of, unit_text, utf16_text}
 use Rattle.esc_decode.specs.declared.byte_order.ByteOrder.{ByteOrder}
 use Rattle.esc_decode.specs.declared.byte_order.ByteOrder.TheVariants.{Little, Big, Marked}
 use Rattle.esc_decode.specs.declared.utf16_decoder.Utf16Decoder.{Utf16Decoder}
@@ -38,7 +38,7 @@ going_text k s = text_by (by_order k s)
 
 -- the text of one that has ended
 abbrev pub whole_text_by : Ordered → List ℕ
-whole_text_by o = encode_utf8_all (all_characters o.0 o.1)
+whole_text_by o = spell_all (all_code_points o.0 o.1)
 
 abbrev pub whole_text : ByteOrder → List ℕ → List ℕ
 whole_text k s = whole_text_by (by_order k s)

@@ -2,7 +2,7 @@
 ghost use Rattle.std.specs.Prelude.{◌≡◌};
 ghost use Rattle.esc_decode.specs.Pages.{character_in, table_of};
 
-use crate::eight_bit::character_of;
+use crate::eight_bit::point_of;
 use crate::tables::{
     LATIN_1, LATIN_1_WITH_CONTROLS, WINDOWS_1250, WINDOWS_1251, WINDOWS_1252, WINDOWS_1253,
     WINDOWS_1254, WINDOWS_1255, WINDOWS_1256, WINDOWS_1257, WINDOWS_1258,
@@ -12,8 +12,8 @@ use crate::tables::{
 /// windows-1250 are those of the Encoding Standard (<https://encoding.spec.whatwg.org/>).
 #[derive(Clone, Copy)]
 pub enum CodePage {
-    /// ISO/IEC 8859-1, with U+FFFD for the bytes 80 to 9F. It is not windows-1252, for which the
-    /// Encoding Standard takes the name.
+    /// ISO/IEC 8859-1, in which the bytes 80 to 9F have no character. It is not windows-1252, for
+    /// which the Encoding Standard takes the name.
     Latin1,
     /// The same with the controls of C1 as the bytes 80 to 9F.
     Latin1WithControls,
@@ -39,11 +39,10 @@ pub enum CodePage {
 
 impl CodePage {
     /// The character of a byte; U+FFFD if it has none.
-    #[tactic(auto, using(crate::proofs::Reading::character_scalar))]
     pub fn character(self, byte: u8) -> char
         ensures { result ≡ character_in (table_of self) byte }
     {
-        match char::from_u32(character_of(table_of(self), byte) as u32) {
+        match char::from_u32(point_of(table_of(self), byte) as u32) {
             Some(c) => c,
             None => '\u{fffd}',
         }

@@ -1,12 +1,15 @@
 //! Bytes of an 8-bit encoding as characters.
-ghost use Rattle.std.specs.Prelude.{◌≡◌, ◌++◌, ◌<◌, ◌≤◌, IfOk, OnErr, OnOk, encode_utf8, length, take};
-ghost use Rattle.esc_decode.specs.Pages.{character_in, read_in, scalar_or};
+ghost use Rattle.std.specs.Prelude.{◌≡◌, ◌++◌, ◌<◌, ◌≤◌, IfOk, OnErr, OnOk, encode_utf8, length, take, true};
+ghost use Rattle.esc_decode.specs.Pages.{point_in, read_in};
+ghost use Rattle.esc_decode.specs.Spellings.{spelling};
 ghost use Rattle.fallible_alloc.specs.Refusals.{Refused};
+ghost use lib.Utf8.{scalar};
 
 use esc_frame::ascii_run;
 use std::alloc::{AllocError, Allocator};
 
-/// Appends the characters of the bytes, by the table of those from 80 on.
+/// Appends the characters of the bytes, by the table of those from 80 on, and FF for a byte that
+/// has none.
 pub(crate) fn push_characters<A: Allocator>(
     text: &mut Vec<u8, A>,
     table: &[u16; 128],
@@ -40,37 +43,38 @@ fn push_some<A: Allocator>(
         fallible_alloc::extend(text, &bytes[..run])?;
         return Ok(run);
     }
-    push_scalar(text, character_of(table, bytes[0]))?;
+    push_point(text, point_of(table, bytes[0]))?;
     Ok(1)
 }
 
-/// The number of the character of a byte.
+/// The code point of a byte: a surrogate if it has no character.
 #[inline(always)]
-pub(crate) fn character_of(table: &[u16; 128], byte: u8) -> u16
-    ensures { result ≡ character_in table.now byte }
+pub(crate) fn point_of(table: &[u16; 128], byte: u8) -> u16
+    ensures { result ≡ point_in table.now byte }
 {
     if byte < 0x80 {
         byte as u16
     } else {
-        scalar_or(table[byte as usize - 0x80])
+        table[byte as usize - 0x80]
     }
 }
 
-// The number, if it is that of a character.
+// Appends the UTF-8 of a code point.
 #[inline(always)]
-fn scalar_or(n: u16) -> u16
-    ensures { result ≡ scalar_or n }
+fn push_point<A: Allocator>(text: &mut Vec<u8, A>, n: u16) -> Result<(), AllocError>
+    ensures ok { OnOk result (text.new.items ≡ text.old.items ++ spelling n) }
+    ensures refused { OnErr result (Refused A) }
 {
     if 0xd800 <= n && n <= 0xdfff {
-        0xfffd
-    } else {
-        n
+        return fallible_alloc::extend(text, &[0xff]);
     }
+    push_scalar(text, n)
 }
 
-// Appends the UTF-8 of the character of this number.
+// The same if it is a character.
 #[inline(always)]
 fn push_scalar<A: Allocator>(text: &mut Vec<u8, A>, n: u16) -> Result<(), AllocError>
+    requires { scalar n ≡ true }
     ensures ok { OnOk result (text.new.items ≡ text.old.items ++ encode_utf8 n) }
     ensures refused { OnErr result (Refused A) }
 {

@@ -1,9 +1,11 @@
 //! Laws of streams of UTF-8 in which no raw control is left.
 ghost use Rattle.std.specs.Prelude.{◌≡◌, ◌++◌, ◌∷◌, ◌<◌, ℕ, List, [], false, length, true};
-ghost use Rattle.std.specs.List.{list_any};
+ghost use Rattle.std.specs.List.{list_all, list_any};
 ghost use Rattle.std.specs.Str.{IsAscii, IsUtf8};
 ghost use Rattle.esc_decode.specs.Masks.{IsMaskOf, begins_raw, begun_after, is_bytewise, is_raw, masked_bytes, masked_after};
-ghost use Rattle.esc_decode.specs.Pages.{read_by};
+ghost use Rattle.esc_decode.specs.Pages.{has_character, read_by};
+ghost use Rattle.esc_decode.specs.Utf16Streams.{whole_text};
+ghost use Rattle.esc_decode.specs.declared.byte_order.ByteOrder.{ByteOrder};
 ghost use Rattle.esc_decode.specs.declared.code_page.CodePage.{CodePage};
 ghost use Rattle.esc_frame.specs.Segments.{IsCut, Segment};
 ghost use Rattle.esc_frame.specs.Sequences.{continues};
@@ -41,13 +43,26 @@ pub fn masks_chunk_by_chunk()
         ++ masked_after (begun_after [] s) t }
 {}
 
-/// The decoded text of a stream in an 8-bit encoding is text in UTF-8.
+/// The decoded text of a stream in an 8-bit encoding is text in UTF-8 if each byte has a character.
 #[tactic(auto, using(crate::proofs::Reading::read_is_text))]
 pub fn code_page_is_text()
-    ensures { (p : CodePage) (s : List ℕ) → IsUtf8 (read_by p s) }
+    ensures { (p : CodePage) (s : List ℕ) → list_all (has_character p) s ≡ true
+        → IsUtf8 (read_by p s) }
 {}
 
-/// And bytes of ASCII stay as they are.
+/// And whatever the bytes are, no raw control is in it.
+#[tactic(auto, using(crate::proofs::Reading::read_stays))]
+pub fn code_page_has_no_raw_control()
+    ensures { (p : CodePage) (s : List ℕ) → masked_bytes (read_by p s) ≡ read_by p s }
+{}
+
+/// Nor is one in that of a stream in UTF-16.
+#[tactic(auto, using(crate::proofs::Utf16Streams::text_stays))]
+pub fn utf16_has_no_raw_control()
+    ensures { (k : ByteOrder) (s : List ℕ) → masked_bytes (whole_text k s) ≡ whole_text k s }
+{}
+
+/// Bytes of ASCII stay as they are.
 #[tactic(auto, using(crate::proofs::Reading::ascii_by))]
 pub fn code_page_keeps_ascii()
     ensures { (p : CodePage) (s : List ℕ) → IsAscii s → read_by p s ≡ s }

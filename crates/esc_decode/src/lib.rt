@@ -4,6 +4,7 @@
 //! stream of UTF-8 there is none: such a byte is a part of a character, or of a text in another
 //! encoding, in which it would open a string and so take away the text after it. A [`Decoding`]
 //! before a filter has it replaced, by FF, which begins no character either and is shown as U+FFFD.
+//! So is a byte of a code page that has no character, and a unit of UTF-16 that is no part of one.
 //!
 //! ```text
 //! let inner = Filter::new(alloc, 65_536, Policy::Color);
@@ -36,9 +37,9 @@ pub use decoding::Decoding;
 pub use encoding::Encoding;
 pub use input::Input;
 pub use laws::{
-    ascii_stays, characters_stay, code_page_is_text, code_page_keeps_ascii,
-    each_byte_stays_or_is_masked, length_stays, masks_chunk_by_chunk, no_raw_control_begins,
-    raw_bytes_go_on,
+    ascii_stays, characters_stay, code_page_has_no_raw_control, code_page_is_text,
+    code_page_keeps_ascii, each_byte_stays_or_is_masked, length_stays, masks_chunk_by_chunk,
+    no_raw_control_begins, raw_bytes_go_on, utf16_has_no_raw_control,
 };
 pub use mask::Mask;
 pub use names::{ENCODINGS, encoding_of, order_of, page_of};

@@ -1,11 +1,13 @@
 //! A stream of UTF-16 as UTF-8.
-ghost use Rattle.std.specs.Prelude.{◌≡◌, ◌++◌, ◌∷◌, [], OnErr, OnOk, string_bytes, encode_utf8, true};
-ghost use Rattle.std.specs.Str.{encode_utf8_all};
+ghost use Rattle.std.specs.Prelude.{◌≡◌, ◌++◌, ◌∷◌, [], OnErr, OnOk};
 ghost use Rattle.fallible_alloc.specs.Refusals.{Refused};
+ghost use Rattle.esc_decode.specs.Spellings.{spell_all};
 ghost use Rattle.esc_decode.specs.Units.{unit_text, after, fresh_units, cut_short, unit_utf8, given_alone, is_high, is_low, unit_left, left_alone, pair, unit};
-ghost use lib.Utf8.{scalar};
 
 use std::alloc::{AllocError, Allocator};
+
+// A surrogate, in place of a character that is not there.
+const NO_CHARACTER: u32 = 0xd800;
 
 /// Makes UTF-8 of a stream of UTF-16, chunk by chunk. It keeps the first byte of a unit, and the
 /// first unit of a pair.
@@ -28,15 +30,15 @@ impl Utf16 {
         }
     }
 
-    /// Appends the characters that these bytes end.
+    /// Appends the characters that these bytes end, and FF for a unit that is no part of a pair.
     pub fn push<A: Allocator>(
         &mut self,
         bytes: &[u8],
-        text: &mut String<A>,
+        text: &mut Vec<u8, A>,
     ) -> Result<(), AllocError>
         ensures state { OnOk result (self.new ≡ after self.old bytes.now) }
         ensures text { OnOk result
-            (string_bytes text.new ≡ string_bytes text.old ++ unit_text self.old bytes.now) }
+            (text.new.items ≡ text.old.items ++ unit_text self.old bytes.now) }
         ensures refused { OnErr result (Refused A) }
     {
         for byte in bytes {
@@ -45,10 +47,10 @@ impl Utf16 {
         Ok(())
     }
 
-    /// Appends U+FFFD if the stream ends within a unit or a pair.
-    pub fn end<A: Allocator>(&mut self, text: &mut String<A>) -> Result<(), AllocError>
-        ensures text { OnOk result (string_bytes text.new
-            ≡ string_bytes text.old ++ encode_utf8_all (cut_short self.old.odd self.old.high)) }
+    /// Appends FF if the stream ends within a unit or a pair.
+    pub fn end<A: Allocator>(&mut self, text: &mut Vec<u8, A>) -> Result<(), AllocError>
+        ensures text { OnOk result (text.new.items
+            ≡ text.old.items ++ spell_all (cut_short self.old.odd self.old.high)) }
         ensures refused { OnErr result (Refused A) }
     {
         match (self.odd, self.high) {
@@ -56,16 +58,16 @@ impl Utf16 {
             _ => {
                 self.odd = None;
                 self.high = None;
-                push_scalar(text, 0xfffd)
+                push_point(text, NO_CHARACTER)
             }
         }
     }
 
     // Takes a byte more.
-    fn take<A: Allocator>(&mut self, byte: u8, text: &mut String<A>) -> Result<(), AllocError>
+    fn take<A: Allocator>(&mut self, byte: u8, text: &mut Vec<u8, A>) -> Result<(), AllocError>
         ensures state { self.new ≡ after self.old (byte ∷ []) }
         ensures text { OnOk result
-            (string_bytes text.new ≡ string_bytes text.old ++ unit_text self.old (byte ∷ [])) }
+            (text.new.items ≡ text.old.items ++ unit_text self.old (byte ∷ [])) }
         ensures refused { OnErr result (Refused A) }
     {
         match self.odd {
@@ -133,23 +135,23 @@ fn left_alone(unit: u16) -> Option<u16>
     if is_high(unit) { Some(unit) } else { None }
 }
 
-// Appends the characters that a unit ends, if this first one of a pair has come before it.
+// Appends the code points that a unit ends, if this first one of a pair has come before it.
 fn push_given<A: Allocator>(
-    text: &mut String<A>,
+    text: &mut Vec<u8, A>,
     high: Option<u16>,
     unit: u16,
 ) -> Result<(), AllocError>
     ensures text { OnOk result
-        (string_bytes text.new ≡ string_bytes text.old ++ encode_utf8_all (unit_utf8 high unit)) }
+        (text.new.items ≡ text.old.items ++ spell_all (unit_utf8 high unit)) }
     ensures refused { OnErr result (Refused A) }
 {
     match high {
         None => push_alone(text, unit),
         Some(high) => {
             if is_low(unit) {
-                push_scalar(text, pair(high, unit))
+                push_point(text, pair(high, unit))
             } else {
-                push_scalar(text, 0xfffd)?;
+                push_point(text, high as u32)?;
                 push_alone(text, unit)
             }
         }
@@ -157,29 +159,29 @@ fn push_given<A: Allocator>(
 }
 
 // The same if nothing has.
-fn push_alone<A: Allocator>(text: &mut String<A>, unit: u16) -> Result<(), AllocError>
+fn push_alone<A: Allocator>(text: &mut Vec<u8, A>, unit: u16) -> Result<(), AllocError>
     ensures text { OnOk result
-        (string_bytes text.new ≡ string_bytes text.old ++ encode_utf8_all (given_alone unit)) }
+        (text.new.items ≡ text.old.items ++ spell_all (given_alone unit)) }
     ensures refused { OnErr result (Refused A) }
 {
     if is_high(unit) {
         Ok(())
-    } else if is_low(unit) {
-        push_scalar(text, 0xfffd)
     } else {
-        push_scalar(text, unit as u32)
+        push_point(text, unit as u32)
     }
 }
 
-// Appends the character of this number.
-fn push_scalar<A: Allocator>(text: &mut String<A>, number: u32) -> Result<(), AllocError>
-    requires { scalar number ≡ true }
+// Appends the UTF-8 of a code point, and FF for a surrogate.
+fn push_point<A: Allocator>(text: &mut Vec<u8, A>, point: u32) -> Result<(), AllocError>
     ensures text { OnOk result
-        (string_bytes text.new ≡ string_bytes text.old ++ encode_utf8_all (number ∷ [])) }
+        (text.new.items ≡ text.old.items ++ spell_all (point ∷ [])) }
     ensures refused { OnErr result (Refused A) }
 {
-    match char::from_u32(number) {
-        Some(c) => fallible_alloc::push_char(text, c),
-        None => Ok(()),
+    match char::from_u32(point) {
+        Some(c) => {
+            let mut bytes = [0; 4];
+            fallible_alloc::extend(text, c.encode_utf8(&mut bytes).as_bytes())
+        }
+        None => fallible_alloc::extend(text, &[0xff]),
     }
 }

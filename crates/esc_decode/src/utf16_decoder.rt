@@ -1,5 +1,5 @@
 //! A stream of UTF-16 as UTF-8, by its byte order mark.
-ghost use Rattle.std.specs.Prelude.{◌≡◌, ◌++◌, ℕ, List, [], OnErr, OnOk, string_bytes, true};
+ghost use Rattle.std.specs.Prelude.{◌≡◌, ◌++◌, ℕ, List, [], OnErr, OnOk, true};
 ghost use Rattle.fallible_alloc.specs.Refusals.{Refused};
 ghost use Rattle.esc_decode.specs.Units.{mark_of};
 ghost use Rattle.esc_decode.specs.Utf16Streams.{DecodesMore, LeavesUnits, decoder_of, going_text, whole_text};
@@ -9,9 +9,9 @@ use crate::byte_order::ByteOrder;
 use crate::utf16::Utf16;
 use std::alloc::{AllocError, Allocator};
 
-/// Makes UTF-8 of a stream of UTF-16, chunk by chunk: a unit that is no part of a pair is U+FFFD,
-/// and so is a unit or pair that the end of the stream cuts short. A byte order mark is left out if
-/// it may say the order of bytes.
+/// Makes UTF-8 of a stream of UTF-16, chunk by chunk: a unit that is no part of a pair is FF, which
+/// is in no character, and so is a unit or pair that the end of the stream cuts short. A byte order
+/// mark is left out if it may say the order of bytes.
 ///
 /// It keeps the first byte of a unit, or of a mark, and the first unit of a pair.
 #[derive(Clone, Copy)]
@@ -41,10 +41,10 @@ impl Utf16Decoder {
     pub fn push<A: Allocator>(
         &mut self,
         bytes: &[u8],
-        text: &mut String<A>,
+        text: &mut Vec<u8, A>,
     ) -> Result<(), AllocError>
         ensures decoded { (k : ByteOrder) (s : List ℕ) → self.old ≡ decoder_of k s
-            → OnOk result ((t : List ℕ) × (string_bytes text.new ≡ string_bytes text.old ++ t)
+            → OnOk result ((t : List ℕ) × (text.new.items ≡ text.old.items ++ t)
             × DecodesMore k s bytes.now t self.new) }
         ensures refused { OnErr result (Refused A) }
     {
@@ -53,9 +53,9 @@ impl Utf16Decoder {
     }
 
     /// Appends the text that the end of the stream adds.
-    pub fn end<A: Allocator>(&mut self, text: &mut String<A>) -> Result<(), AllocError>
+    pub fn end<A: Allocator>(&mut self, text: &mut Vec<u8, A>) -> Result<(), AllocError>
         ensures decoded { (k : ByteOrder) (s : List ℕ) → self.old ≡ decoder_of k s
-            → OnOk result ((t : List ℕ) × (string_bytes text.new ≡ string_bytes text.old ++ t)
+            → OnOk result ((t : List ℕ) × (text.new.items ≡ text.old.items ++ t)
             × (whole_text k s ≡ going_text k s ++ t)) }
         ensures refused { OnErr result (Refused A) }
     {

@@ -17,7 +17,7 @@ pub struct Utf16Reader<R, A: Allocator = Global> {
     inner: R,
     decoder: Utf16Decoder,
     // the text that was read, and the number of bytes of it that were handed out
-    text: String<A>,
+    text: Vec<u8, A>,
     at: usize,
     has_ended: bool,
 }
@@ -28,7 +28,7 @@ impl<R: Read, A: Allocator> Utf16Reader<R, A> {
         Utf16Reader {
             inner,
             decoder: Utf16Decoder::new(order),
-            text: String::new(alloc),
+            text: Vec::new(alloc),
             at: 0,
             has_ended: false,
         }
@@ -55,7 +55,7 @@ impl<R: Read, A: Allocator> Utf16Reader<R, A> {
         ensures { result ≤ length buf.new }
     {
         let at = self.at;
-        let count = match self.text.as_bytes().get(at..) {
+        let count = match self.text.as_slice().get(at..) {
             Some(rest) => copied(rest, buf),
             None => 0,
         };

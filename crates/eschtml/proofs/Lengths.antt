@@ -2,17 +2,18 @@
 use Rattle.std.proofs.Common.{ℕ, zero, suc, ◌≡◌, ◌≤◌, ◌<◌, ◌+◌, ◌*◌, ◌-◌, ◌==◌, ◌||◌, ◌&&◌, Bool, true, false, nat_lt, if◌then◌else◌, List, [], ◌∷◌, ◌++◌, length, map, Option, None, Some, Result, Ok, Err, OnOk, refl, ap, sym, subst, ◌∙◌, arith}
 use Rattle.std.specs.Char.{encode_utf8}
 use Rattle.std.specs.List.{flat_map}
-use Rattle.std.specs.Str.{encode_utf8_all}
 use Rattle.std.specs.declared.io.traits.Read.{Ghosts as Reader}
 use Rattle.std.specs.declared.io.traits.Write.{Ghosts as Writer}
 use Rattle.std.proofs.lemmas.Bool.Decides.{nat_tests}
 use Rattle.std.proofs.lemmas.Bool.{leb-true}
 use Rattle.std.proofs.lemmas.List.{length-append}
 use Rattle.std.proofs.lemmas.Str.{len_utf8_bounds, length-encode}
+use lib.Utf8.{scalar}
 use Rattle.esc_actions.specs.Values.{Value}
 use Rattle.esc_decode.proofs.Masks.{length_stays}
 use Rattle.esc_decode.specs.Decodings.{decoded_stream}
-use Rattle.esc_decode.specs.Pages.{character_in, table_of}
+use Rattle.esc_decode.specs.Pages.{point_in, read_in, table_of}
+use Rattle.esc_decode.specs.Spellings.{spelling}
 use Rattle.esc_decode.specs.declared.encoding.Encoding.{Encoding}
 use Rattle.esc_decode.specs.declared.encoding.Encoding.TheVariants.{CodePage, EightBit, Utf8}
 use Rattle.esc_frame.specs.Sequences.{is_prefix, is_sequence, number_of, outcome}
@@ -316,15 +317,21 @@ module _ {A : Type 0} (limit : ℕ) (admits : Value A → Bool) where
 
 -- ---- the stream in its encoding
 
-characters_most : (t s : List ℕ) → length (encode_utf8_all (map (character_in t) s)) ≤ 4 * length s
+spelling_most : (n : ℕ) → length (spelling n) ≤ 4
+spelling_most n = by (scalar n)
+  where
+    by : (t : Bool) → length (if t then encode_utf8 n else 0xff ∷ []) ≤ 4
+    by true = omega (arith, length-encode n, (len_utf8_bounds n).1)
+    by false = omega arith
+
+characters_most : (t s : List ℕ) → length (read_in t s) ≤ 4 * length s
 characters_most t [] = omega arith
 characters_most t (b ∷ s) =
-    let c = character_in t b in
+    let n = point_in t b in
     omega (
       arith,
-      length-append (encode_utf8 c) (encode_utf8_all (map (character_in t) s)),
-      length-encode c,
-      (len_utf8_bounds c).1,
+      length-append (spelling n) (read_in t s),
+      spelling_most n,
       characters_most t s,
     )
 

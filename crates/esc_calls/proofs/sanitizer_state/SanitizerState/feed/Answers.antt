@@ -1,4 +1,4 @@
-use Rattle.std.proofs.Common.{◌++◌, Some, string_bytes, ap, sym, ◌∙◌}
+use Rattle.std.proofs.Common.{◌++◌, Some, ap, sym, ◌∙◌}
 use Rattle.std.proofs.lemmas.Result.{on_ok_weaker}
 use Rattle.esc_calls.proofs.Sanitizing.{decoded_more, feeds, undecoded, undecoded_by}
 use Rattle.esc_calls.specs.SanitizerStates.{going_bytes}
@@ -15,6 +15,7 @@ returns-in_default-clause-taken c = λ o s h.
     let new : SanitizerState = record {
       sanitizer = c.feed.new.self;
       decoder = z.decoder;
+      decoded = z.decoded;
       text = z.text;
       is_closing = z.is_closing;
     } in
@@ -27,21 +28,21 @@ pub returns-clause-taken : goal.returns-clause-taken
 returns-clause-taken c = λ o s h.
     let z = c.args.self.now in
     let b = c.args.bytes.now in
-    let x = c.as_bytes.result.now in
+    let x = c.deref.result.now in
     let new : SanitizerState = record {
       sanitizer = c.feed-2.new.self;
       decoder = Some c.push.new.self;
-      text = c.push.new.text;
+      decoded = c.push.new.text;
+      text = z.text;
       is_closing = z.is_closing;
     } in
-    let more = decoded_more o.order s b (string_bytes c.push.new.text) c.in-Some.decoder
+    let more = decoded_more o.order s b c.push.new.text.items c.in-Some.decoder
     c.push.new.self (sym h.decoder ∙ c.in-Some.is)
     (λ j r is. let k = c.in-Ok.ensures.decoded j r is in
-    (k.0, k.1 ∙ ap (λ y. y ++ k.0) c.clear.ensures.bytes, k.2)) in
+    (k.0, k.1 ∙ ap (λ y. y ++ k.0) c.clear.ensures.items, k.2)) in
+    let is = more.0 ∙ ap (λ y. going_bytes o.order s ++ y) (sym c.deref.ensures.value) in
     on_ok_weaker c.feed-2.result
-    (feeds o s b x z new h
-    (more.0 ∙ ap (λ y. going_bytes o.order s ++ y) (sym c.as_bytes.ensures.value))
-    (sym more.1) h.goes_on c.feed-2.ensures.after.1)
+    (feeds o s b x z new h is (sym more.1) h.goes_on c.feed-2.ensures.after.1)
     (c.feed-2.ensures.given (going_bytes o.order s) h.fed)
 
 pub returns-in_default-clause-memory : goal.returns-in_default-clause-memory

@@ -1,4 +1,4 @@
-use Rattle.std.proofs.Common.{◌++◌, string_bytes, ap, sym, ◌∙◌}
+use Rattle.std.proofs.Common.{◌++◌, ap, sym, ◌∙◌}
 use Rattle.std.proofs.lemmas.Result.{on_ok_weaker}
 use Rattle.esc_calls.proofs.Sanitizing.{decoded_end, finishes, undecoded_by}
 use Rattle.esc_calls.specs.SanitizerStates.{going_bytes}
@@ -11,6 +11,7 @@ returns-in_default-clause-ended c = λ o s h.
     let new : SanitizerState = record {
       sanitizer = c.finish.new.self;
       decoder = z.decoder;
+      decoded = z.decoded;
       text = z.text;
       is_closing = z.is_closing;
     } in
@@ -24,10 +25,10 @@ returns-clause-ended c = λ o s h.
     c.in-Ok-close.ensures.ended o s (record {
       fed = h.fed;
       options = h.options;
-      rest = decoded_end o.order s (string_bytes c.end.new.text) c.in-Some.decoder
+      rest = decoded_end o.order s c.end.new.text.items c.in-Some.decoder
           (sym h.decoder ∙ c.in-Some.is)
           (λ j r is. let k = c.in-Ok.ensures.decoded j r is in
-          (k.0, k.1 ∙ ap (λ y. y ++ k.0) c.clear.ensures.bytes, k.2));
+          (k.0, k.1 ∙ ap (λ y. y ++ k.0) c.clear.ensures.items, k.2));
     })
 
 pub returns-in_default-clause-memory : goal.returns-in_default-clause-memory
