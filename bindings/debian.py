@@ -58,6 +58,7 @@ class Archive:
 
     def unpack_source(self, package: str, folder: Path) -> None:
         """Unpacks the source of a program into a folder."""
-        self.run("source", "--download-only", package)
-        for archive in self.room.glob("*.orig.tar.*"):
-            subprocess.run(["tar", "-C", folder, "-xf", archive], check=True)
+        self.run("source", "--download-only", "--tar-only", package)
+        for archive in self.room.glob(f"{package}_*.orig.tar.[!.]*"):
+            if archive.suffix != ".asc":
+                subprocess.run(["tar", "-C", folder, "-xf", archive], check=True)
