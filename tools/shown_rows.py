@@ -1,5 +1,5 @@
 # SPDX-License-Identifier: MIT
-"""The screen that `escshow --json` prints, as rows of text: for tools that compare it with others."""
+"""The screen that `escshow --json` prints, as rows of text, for comparisons with other screens."""
 
 
 def trimmed(rows):
