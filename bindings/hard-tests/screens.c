@@ -62,9 +62,11 @@ static uint32_t read_texts(struct escape_stream_screen *it) {
     size_t needed = 0, room = below(200);
     uint32_t status =
         escape_stream_screen_text(it, below(rows), placed(&outs, room), room, &needed);
-    at_hand.calls += 5;
+    at_hand.calls += 6;
     if (status == ESCAPE_STREAM_DONE)
         status = escape_stream_screen_title(it, placed(&outs, room), room, &needed);
+    if (status == ESCAPE_STREAM_DONE)
+        status = escape_stream_screen_icon_name(it, placed(&outs, room), room, &needed);
     if (status == ESCAPE_STREAM_DONE)
         status = escape_stream_screen_link(it, below(9), placed(&outs, room), room, &needed);
     if (status == ESCAPE_STREAM_DONE)

@@ -388,6 +388,10 @@ screen_title = _short.escape_stream_screen_title
 screen_title.argtypes = (_screen, *_room, POINTER(c_size_t))
 screen_title.restype = c_uint32
 
+screen_icon_name = _short.escape_stream_screen_icon_name
+screen_icon_name.argtypes = (_screen, *_room, POINTER(c_size_t))
+screen_icon_name.restype = c_uint32
+
 screen_link = _short.escape_stream_screen_link
 screen_link.argtypes = (_screen, c_size_t, *_room, POINTER(c_size_t))
 screen_link.restype = c_uint32

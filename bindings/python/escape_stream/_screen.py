@@ -232,6 +232,11 @@ class Screen:
         return self._text(_library.screen_title)
 
     @property
+    def icon_name(self) -> str:
+        """The name of its icon; nothing if it has none."""
+        return self._text(_library.screen_icon_name)
+
+    @property
     def alternate(self) -> bool:
         """Whether the alternate screen is seen."""
         return bool(self._state().alternate)

@@ -53,11 +53,13 @@ def test_strings() -> None:
     with fed(
         "\x1b]2;a title\x07\x1b]8;id=n;http://a/\x07x\x1b]8;;http://b/\x07y\x1b]8;;\x07z"
     ) as screen:
-        assert screen.title == "a title"
+        assert (screen.title, screen.icon_name) == ("a title", "")
         assert screen.links == [Link("http://a/", "n"), Link("http://b/", None)]
         assert [cell.link for cell in screen.line(0)[:3]] == [1, 2, 0]
         screen.feed(f"\x1b]0;{'long' * 100}\x07")
-        assert screen.title == "long" * 100
+        assert screen.title == screen.icon_name == "long" * 100
+        screen.feed("\x1b]1;icon\x07\x1b]2;window\x07")
+        assert (screen.title, screen.icon_name) == ("window", "icon")
 
 
 def test_requests() -> None:

@@ -4,7 +4,7 @@
 //!
 //! A [`Parser`] takes a stream in chunks, and has its [`Screen`]: rows of [`Cell`]s, the cursor,
 //! the title, links, what the stream asked a terminal for, and the rows that were scrolled off.
-//! After any stream the cells, the title and the cursor of the library are proved to be those of a
+//! After any stream the cells, the names and the cursor of the library are proved to be those of a
 //! definition in the terms of ECMA-48, of DEC's manual of the VT510 and of xterm.
 //!
 //! ```

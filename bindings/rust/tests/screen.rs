@@ -64,9 +64,9 @@ fn wraps() {
 #[test]
 fn strings() {
     let parser =
-        parser(b"\x1b]2;a title\x07\x1b]8;id=n;http://a/\x07x\x1b]8;;http://b/\x07y\x1b]8;;\x07z");
+        parser(b"\x1b]0;both\x07\x1b]2;a title\x07\x1b]8;id=n;http://a/\x07x\x1b]8;;http://b/\x07y\x1b]8;;\x07z");
     let screen = parser.screen();
-    assert_eq!(screen.title(), "a title");
+    assert_eq!((screen.title(), screen.icon_name()), ("a title", "both"));
     let link = |col| {
         screen
             .cell(0, col)
@@ -139,6 +139,7 @@ fn chunks() {
         assert!(screen.cells().eq(wanted.cells()), "{size}");
         assert_eq!(screen.cursor_position(), wanted.cursor_position());
         assert_eq!(screen.title(), wanted.title());
+        assert_eq!(screen.icon_name(), wanted.icon_name());
     }
 }
 

@@ -51,7 +51,11 @@ text_or_none None = []
 text_or_none (Some t) = t
 
 abbrev pub title_shown : Shown → List ℕ
-title_shown t = text_or_none t.title
+title_shown t = text_or_none t.names.title
+
+-- and the name of the icon
+abbrev pub icon_name_shown : Shown → List ℕ
+icon_name_shown t = text_or_none t.names.icon_name
 
 -- the numbers of the screen
 pub record Tells (z : Size) (t : Shown) (r : ScreenRow) : Type 0 where
@@ -64,5 +68,5 @@ pub record Tells (z : Size) (t : Shown) (r : ScreenRow) : Type 0 where
   pub alternate : r.alternate ≡ t.grid.alternate
   pub reversed : r.reversed ≡ t.grid.modes.reversed
   pub synchronized : r.synchronized ≡ t.grid.modes.synchronized
-  pub has_title : r.has_title ≡ is_some t.title
+  pub has_title : r.has_title ≡ is_some t.names.title
   pub links : r.links ≡ length t.known.links

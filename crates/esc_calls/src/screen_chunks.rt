@@ -4,7 +4,7 @@ ghost use Rattle.esc_calls.specs.CellRows.{request_row};
 ghost use Rattle.esc_calls.specs.InChunks.{IsEnded, Stays};
 ghost use Rattle.esc_calls.specs.Kept.{screen_in};
 ghost use Rattle.esc_calls.specs.Output.{Puts};
-ghost use Rattle.esc_calls.specs.Screens.{ScreenHasConsumed, ScreenStands, ScreenStandsWith, ScreenTakes, Tells, cells_shown, shown_by, size_for, text_shown, title_shown};
+ghost use Rattle.esc_calls.specs.Screens.{ScreenHasConsumed, ScreenStands, ScreenStandsWith, ScreenTakes, Tells, cells_shown, icon_name_shown, shown_by, size_for, text_shown, title_shown};
 ghost use Rattle.esc_screen.specs.Grids.{Size};
 ghost use Rattle.esc_terminal.specs.Fed.{requests_now};
 ghost use Rattle.esc_terminal.specs.Streams.{Shown};
@@ -153,6 +153,27 @@ pub fn screen_title(alloc: Global, screen: &mut InChunks, out: &mut [u8], needed
         screen,
         Screen(state),
         always * needed = state.title(out)
+    )
+}
+
+/// Does the work of `escape_stream_screen_icon_name` of `escape_c`.
+pub fn screen_icon_name(
+    alloc: Global,
+    screen: &mut InChunks,
+    out: &mut [u8],
+    needed: &mut usize,
+) -> u32
+    ensures shown { (z : Size) (s : List ℕ) → ScreenHasConsumed z s screen.old
+        → result ≡ DONE → Puts (icon_name_shown (shown_by z s)) out.old out.new needed.new }
+    ensures kept { result ≡ DONE → Stays screen.old screen.new }
+    ensures refused { result ≢ DONE → (result ≡ NOT_BEGUN) × IsEnded screen.new
+        × (out.new ≡ out.old) × (needed.new ≡ needed.old) }
+{
+    change_kept!(
+        alloc,
+        screen,
+        Screen(state),
+        always * needed = state.icon_name(out)
     )
 }
 

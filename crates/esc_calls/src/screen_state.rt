@@ -2,7 +2,7 @@
 ghost use Rattle.std.specs.Prelude.{◌≡◌, [], ℕ, IfOk, List, OnErr, OnOk, map};
 ghost use Rattle.esc_calls.specs.CellRows.{request_row};
 ghost use Rattle.esc_calls.specs.Output.{Puts};
-ghost use Rattle.esc_calls.specs.Screens.{Tells, cells_shown, shown_by, text_shown, title_shown};
+ghost use Rattle.esc_calls.specs.Screens.{Tells, cells_shown, icon_name_shown, shown_by, text_shown, title_shown};
 ghost use Rattle.esc_screen.specs.Grids.{Size};
 ghost use Rattle.esc_terminal.specs.Fed.{From, HasConsumed, TakesIn, requests_now, screen_size};
 ghost use Rattle.esc_terminal.specs.Resized.{StandsWith};
@@ -174,6 +174,17 @@ impl ScreenState {
     {
         match self.terminal.title() {
             Some(title) => put(title.as_bytes(), out),
+            None => put(&[], out),
+        }
+    }
+
+    /// Writes the name of the icon, as much as there is room for. Returns its length.
+    pub(crate) fn icon_name(&self, out: &mut [u8]) -> usize
+        ensures { (z : Size) (s : List ℕ) → HasConsumed z s self.now.terminal
+            → Puts (icon_name_shown (shown_by z s)) out.old out.new result }
+    {
+        match self.terminal.icon_name() {
+            Some(name) => put(name.as_bytes(), out),
             None => put(&[], out),
         }
     }

@@ -38,11 +38,8 @@ pub fn push_object(sheet: &mut Sheet, view: View<'_>) -> Result<(), AllocError> 
     push_number(sheet, ",\"rows\":", screen.height())?;
     push_cursor(sheet, screen.cursor(), screen.modes().shows_cursor)?;
     push_flag(sheet, ",\"alternate\":", screen.is_alternate())?;
-    sheet.push_text(",\"title\":")?;
-    match view.title {
-        Some(title) => push_string(sheet, title)?,
-        None => sheet.push_text("null")?,
-    }
+    push_name(sheet, ",\"title\":", view.title)?;
+    push_name(sheet, ",\"icon_name\":", view.icon_name)?;
     push_links(sheet, view.styles.links())?;
     sheet.push_text(",\"cells\":[")?;
     for at in 0..screen.height() {
@@ -222,6 +219,15 @@ fn name_of(color: AnsiColor) -> &'static str {
     match NAMES.get(color.index() as usize) {
         Some(name) => *name,
         None => "",
+    }
+}
+
+// Adds a name of the window after a key, or `null`.
+fn push_name(sheet: &mut Sheet, key: &str, name: Option<&str>) -> Result<(), AllocError> {
+    sheet.push_text(key)?;
+    match name {
+        Some(name) => push_string(sheet, name),
+        None => sheet.push_text("null"),
     }
 }
 

@@ -7,7 +7,7 @@ use esc_style::Look;
 use esc_terminal::Styles;
 use std::alloc::{Allocator, Global};
 
-/// The visible part of a screen: its cells, their looks, and the title of its window.
+/// The visible part of a screen: its cells, their looks, and the names of its window.
 #[derive(Clone, Copy)]
 pub struct View<'a> {
     /// The screen.
@@ -16,6 +16,8 @@ pub struct View<'a> {
     pub styles: &'a Styles,
     /// The title of its window, if it has one.
     pub title: Option<&'a str>,
+    /// The name of its icon, if it has one.
+    pub icon_name: Option<&'a str>,
     /// Says whether looks and links are seen. If not, all cells look plain.
     pub has_looks: bool,
 }

@@ -19,6 +19,7 @@ use Rattle.esc_terminal.specs.Kept.{KeepsFunction, KeepsSequence}
 use Rattle.esc_terminal.specs.Links.{Known}
 use Rattle.esc_terminal.specs.Scrolled.{Row, with_known}
 use Rattle.esc_terminal.specs.Steps.{area_at, csi_step, fill_step, filled_by, function_steps, if_dollared, is_dollared, is_fill, number_at, print_step, sequence_step}
+use Rattle.esc_terminal.specs.Streams.{Names}
 use Rattle.esc_terminal.specs.declared.keeping.Keeping.{Keeping}
 use Rattle.esc_terminal.specs.declared.request.Request.{Request}
 use Rattle.esc_terminal.specs.declared.state.State.{State}
@@ -26,9 +27,9 @@ use Rattle.esc_terminal.specs.declared.state.State.{State}
 -- ---- one step more
 
 pub then_step : {A : Type 0} (p q : State A) (u : Screen A) (xs : List Step) (x : Step)
-    (ks : Known) (t : Option (List ℕ)) (rs : List Request) → Does p xs ks t rs q
-    → TakesStep q.screen x u → Does p (xs ++ x ∷ []) ks t rs (record q { screen = u })
-then_step p q u xs x ks t rs h b =
+    (ks : Known) (n : Names) (rs : List Request) → Does p xs ks n rs q
+    → TakesStep q.screen x u → Does p (xs ++ x ∷ []) ks n rs (record q { screen = u })
+then_step p q u xs x ks n rs h b =
     let s = size_of p.screen in
     let g = grid_of p.screen in
     record {
@@ -38,7 +39,7 @@ then_step p q u xs x ks t rs h b =
         size = b.size ∙ h.screen.size;
       };
       known = h.known;
-      title = h.title;
+      names = h.names;
       requests = h.requests;
     }
 

@@ -20,7 +20,7 @@ use Rattle.esc_screen.specs.Printing.{narrow_printed}
 use Rattle.esc_screen.specs.Screens.{Becomes, grid_of, size_of}
 use Rattle.esc_screen.specs.Steps.{grid_from}
 use Rattle.esc_screen.specs.declared.step.Step.TheVariants as step
-use Rattle.esc_terminal.specs.Fed.{Takes, TakesSequence, known_in, requests_in}
+use Rattle.esc_terminal.specs.Fed.{Takes, TakesSequence, known_in, names_in, requests_in}
 use Rattle.esc_terminal.specs.Kept.{has_column}
 use Rattle.esc_terminal.specs.Steps.{print_step, width_step}
 use Rattle.esc_terminal.specs.declared.state.State.{State}
@@ -58,14 +58,14 @@ one_grid c p =
 
 first_taken : {A : Type 0} (c : ℕ) (p q : State A) → has_column c ≡ true
     → Becomes p.screen (narrow_printed (size_of p.screen) c (grid_of p.screen)) q.screen
-    → known_in q ≡ known_in p → q.title ≡ p.title → requests_in q ≡ requests_in p
+    → known_in q ≡ known_in p → names_in q ≡ names_in p → requests_in q ≡ requests_in p
     → Takes p (action.Print c) q
-first_taken c p q shown b known title requests = record {
+first_taken c p q shown b known names requests = record {
   screen = subst
       (λ x. Becomes p.screen (grid_from (size_of p.screen) (grid_of p.screen) (x ∷ [])) q.screen)
       (sym (step_is c shown)) b;
   known = known;
-  title = title;
+  names = names;
   requests = requests ∙ sym (append-nil (requests_in p));
 }
 
@@ -73,13 +73,13 @@ pub run_taken : {A : Type 0} (cs : List ℕ) (p q : State A) → list_all has_co
     → 0 < length cs
     → Becomes p.screen (grid_from (size_of p.screen) (grid_of p.screen) (map step.Print cs))
     q.screen
-    → known_in q ≡ known_in p → q.title ≡ p.title → requests_in q ≡ requests_in p
+    → known_in q ≡ known_in p → names_in q ≡ names_in p → requests_in q ≡ requests_in p
     → FoldsTo Takes p (map action.Print cs) q
-run_taken [] p q shown some b known title requests = absurd (omega (arith, some))
-run_taken (c ∷ []) p q shown some b known title requests =
+run_taken [] p q shown some b known names requests = absurd (omega (arith, some))
+run_taken (c ∷ []) p q shown some b known names requests =
     let k = and_parts (has_column c) true shown in
-    (q, first_taken c p q k.0 b known title requests, refl)
-run_taken (c ∷ d ∷ cs) p q shown some b known title requests =
+    (q, first_taken c p q k.0 b known names requests, refl)
+run_taken (c ∷ d ∷ cs) p q shown some b known names requests =
     let k = and_parts (has_column c) (list_all has_column (d ∷ cs)) shown in
     let j = one_more c p in
     let is = one_grid c p in (
@@ -93,7 +93,7 @@ run_taken (c ∷ d ∷ cs) p q shown some b known title requests =
             grid = b.grid
                 ∙ ap (λ z. grid_from (size_of p.screen) z (map step.Print (d ∷ cs))) (sym is);
             size = b.size;
-          }) known title requests,
+          }) known names requests,
     )
 
 -- ---- no DEL

@@ -20,7 +20,7 @@ use Rattle.esc_screen.specs.declared.step.Step.{Step}
 use Rattle.esc_screen.proofs.Printing.RowGoesOnOnce.{gone_joined, joins_once}
 use Rattle.esc_screen.proofs.Printing.RunsOfCharacters.{in_chunks}
 use Rattle.esc_screen.proofs.Scrolled.RowsScrolledOff.{in_parts}
-use Rattle.esc_terminal.specs.Fed.{Does, IsShown, Shows, Takes, TakesAll, TakesValue, known_in, requests_in, shown_in}
+use Rattle.esc_terminal.specs.Fed.{Does, IsShown, Shows, Takes, TakesAll, TakesValue, known_in, names_in, requests_in, shown_in}
 use Rattle.esc_terminal.specs.Kept.{HandsOut, KeepsAction, KeepsFunction, KeepsStep}
 use Rattle.esc_terminal.specs.Requests.{function_request, request_list}
 use Rattle.esc_terminal.specs.Scrolled.{GoesOffOn, Row, off_after, off_by_value, with_known}
@@ -39,7 +39,7 @@ pub record Stepped {R A : Type 0} (takes : R → Row → R → Type 0) (p : Keep
   pub screen : Becomes p.state.screen
       (grid_from (size_of p.state.screen) (grid_of p.state.screen) (replicate n x)) q.state.screen
   pub known : known_in q.state ≡ known_in p.state
-  pub title : q.state.title ≡ p.state.title
+  pub names : names_in q.state ≡ names_in p.state
   pub requests : requests_in q.state ≡ requests_in p.state
   pub rows : FoldsTo takes p.rows (with_known (known_in p.state)
       (off_each (size_of p.state.screen) (grid_of p.state.screen) (replicate n x))) q.rows
@@ -52,7 +52,7 @@ stepped_none takes p x = record {
     size = refl;
   };
   known = refl;
-  title = refl;
+  names = refl;
   requests = refl;
   rows = refl;
 }
@@ -103,7 +103,7 @@ stepped_more takes p j k x n u t so on out b =
         size = b.size ∙ ap (λ z. size_of z.screen) same ∙ size;
       };
       known = ap known_in same ∙ so.known;
-      title = ap (λ z. z.title) same ∙ so.title;
+      names = ap names_in same ∙ so.names;
       requests = ap requests_in same ∙ so.requests;
       rows = subst (λ z. FoldsTo takes p.rows z k.rows) (part_more s g x n ls)
           (FoldsTo-append takes p.rows (with_known ls (off_each s g (replicate n x))) j.rows
@@ -123,7 +123,7 @@ stepped_all takes p q x y n is so =
           size = so.screen.size;
         };
         known = so.known;
-        title = so.title;
+        names = so.names;
         requests = so.requests ∙ sym (append-nil (requests_in p.state));
       },
       subst (λ z. FoldsTo takes p.rows (with_known (known_in p.state) z) q.rows)
@@ -134,7 +134,8 @@ stepped_all takes p q x y n is so =
 
 pub step_kept : {R A : Type 0} (takes : R → Row → R → Type 0) (p j q : Keeping R A) (x : Step)
     (f : Function) → one_step p.state.screen.cursor f ≡ Some x → KeepsStep takes p x j
-    → Does j.state [] (known_in j.state) j.state.title (request_list (function_request f)) q.state
+    → Does j.state [] (known_in j.state) (names_in j.state) (request_list (function_request f))
+    q.state
     → q.rows ≡ j.rows → KeepsFunction takes p f q
 step_kept takes p j q x f is (h, out) k rows =
     let ls = known_in p.state in
@@ -148,7 +149,7 @@ step_kept takes p j q x f is (h, out) k rows =
           size = k.screen.size ∙ h.screen.size;
         };
         known = k.known ∙ h.known ∙ sym one.1;
-        title = k.title ∙ h.title;
+        names = k.names ∙ h.names;
         requests = k.requests
             ∙ ap (λ z. z ++ rs) (h.requests ∙ append-nil (requests_in p.state));
       },

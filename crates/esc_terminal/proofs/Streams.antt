@@ -13,12 +13,12 @@ use Rattle.esc_screen.specs.Halves.{HasWholeRows}
 use Rattle.esc_screen.specs.Sound.{IsSound}
 use Rattle.esc_screen.proofs.Sound.StaysSound.{stays_sound}
 use Rattle.esc_screen.proofs.Whole.GridsStayWhole.{stays_whole}
-use Rattle.esc_terminal.specs.Fed.{HasConsumed, IsShown, Shows, Takes, TakesSteps, TakesValue, known_in, requests_in, shown_in}
+use Rattle.esc_terminal.specs.Fed.{HasConsumed, IsShown, Shows, Takes, TakesSteps, TakesValue, known_in, names_in, requests_in, shown_in}
 use Rattle.esc_terminal.specs.Laws.{GoesOn, StandsAt}
 use Rattle.esc_terminal.specs.Links.{first_known}
 use Rattle.esc_terminal.specs.Requests.{requests_of}
 use Rattle.esc_terminal.specs.Steps.{steps_of}
-use Rattle.esc_terminal.specs.Streams.{Shown, asked_by, first_shown, shown_after, shown_by, shown_of, values_of}
+use Rattle.esc_terminal.specs.Streams.{Shown, asked_by, first_shown, no_names, shown_after, shown_by, shown_of, values_of}
 use Rattle.esc_terminal.specs.declared.state.State.{State}
 
 shown_more : {A : Type 0} (z : Size) (t : Shown) (us vs : List (Value A))
@@ -38,8 +38,8 @@ pub one_shown : {A : Type 0} (p : State A) (v : Value A) (q : State A) → Takes
 one_shown p v q k =
     let t = shown_by (size_of p.screen) (shown_in p) v in
     ap (λ x. record (shown_in q) { grid = x }) k.screen.grid
-    ∙ ap (λ x. record t { known = x; title = q.title }) k.known
-    ∙ ap (λ x. record t { title = x }) k.title
+    ∙ ap (λ x. record t { known = x; names = names_in q }) k.known
+    ∙ ap (λ x. record t { names = x }) k.names
 
 all_did : {A : Type 0} (p : State A) (vs : List (Value A)) (q : State A)
     → FoldsTo (At value_of Takes) p vs q → Did p vs q
@@ -61,22 +61,22 @@ all_did p (v ∷ vs) q (j, (a, is, w), rest) =
     }
 
 pub shows_first : {A : Type 0} (z : Size) (p : State A) → grid_of p.screen ≡ first_grid z
-    → size_of p.screen ≡ z → known_in p ≡ first_known → p.title ≡ None → Shows z [] p
-shows_first {A} z p grid size known title = record {
+    → size_of p.screen ≡ z → known_in p ≡ first_known → names_in p ≡ no_names → Shows z [] p
+shows_first {A} z p grid size known names = record {
   shown = ap (λ x. record (shown_in p) { grid = x }) grid
-      ∙ ap (λ x. record (first_shown z) { known = x; title = p.title }) known
-      ∙ ap (λ x. record (first_shown z) { title = x }) title
+      ∙ ap (λ x. record (first_shown z) { known = x; names = names_in p }) known
+      ∙ ap (λ x. record (first_shown z) { names = x }) names
       ∙ ap (shown_after z (first_shown z)) (sym (meaning_nil {A = A} (Some 0x1000)));
   size = size;
 }
 
 -- the same with no requests
 pub shows_cleared : {A : Type 0} (z : Size) (s : List ℕ) (p q : State A) → q.screen ≡ p.screen
-    → known_in q ≡ known_in p → q.title ≡ p.title → Shows z s p → Shows z s q
-shows_cleared z s p q screen known title h = record {
+    → known_in q ≡ known_in p → names_in q ≡ names_in p → Shows z s p → Shows z s q
+shows_cleared z s p q screen known names h = record {
   shown = ap (λ x. record (shown_in q) { grid = grid_of x }) screen
-      ∙ ap (λ x. record (shown_in p) { known = x; title = q.title }) known
-      ∙ ap (λ x. record (shown_in p) { title = x }) title ∙ h.shown;
+      ∙ ap (λ x. record (shown_in p) { known = x; names = names_in q }) known
+      ∙ ap (λ x. record (shown_in p) { names = x }) names ∙ h.shown;
   size = ap size_of screen ∙ h.size;
 }
 
@@ -100,11 +100,11 @@ shows_more {A} z s b p q none h f =
 -- ---- from what it shows
 
 pub shown_cleared : {A : Type 0} (z : Size) (x : Shown) (p q : State A) → q.screen ≡ p.screen
-    → known_in q ≡ known_in p → q.title ≡ p.title → IsShown z x p → IsShown z x q
-shown_cleared z x p q screen known title h = record {
+    → known_in q ≡ known_in p → names_in q ≡ names_in p → IsShown z x p → IsShown z x q
+shown_cleared z x p q screen known names h = record {
   shown = ap (λ y. record (shown_in q) { grid = grid_of y }) screen
-      ∙ ap (λ y. record (shown_in p) { known = y; title = q.title }) known
-      ∙ ap (λ y. record (shown_in p) { title = y }) title ∙ h.shown;
+      ∙ ap (λ y. record (shown_in p) { known = y; names = names_in q }) known
+      ∙ ap (λ y. record (shown_in p) { names = y }) names ∙ h.shown;
   size = ap size_of screen ∙ h.size;
 }
 
@@ -181,7 +181,7 @@ does_nothing p = record {
     size = refl;
   };
   known = refl;
-  title = refl;
+  names = refl;
   requests = sym (append-nil (requests_in p));
 }
 

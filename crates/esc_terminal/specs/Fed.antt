@@ -14,7 +14,7 @@ use Rattle.esc_screen.specs.declared.screen.Screen.{Screen}
 use Rattle.esc_screen.specs.declared.step.Step.{Step}
 use Rattle.esc_terminal.specs.Requests.{function_request, request_list, requests_of}
 use Rattle.esc_terminal.specs.Steps.{csi_steps, function_known, function_steps, known_by, steps_of}
-use Rattle.esc_terminal.specs.Streams.{Shown, asked_by, shown_after, shown_of, title_by}
+use Rattle.esc_terminal.specs.Streams.{Names, Shown, asked_by, names_by, shown_after, shown_of}
 use Rattle.esc_terminal.specs.declared.request.Request.{Request}
 use Rattle.esc_terminal.specs.declared.state.State.{State}
 use Rattle.esc_terminal.specs.declared.styles.Styles.{Styles}
@@ -27,45 +27,53 @@ known_in p = known_of p.styles
 abbrev pub requests_in : {A : Type 0} → State A → List Request
 requests_in p = p.requests.items
 
+abbrev pub names_in : {A : Type 0} → State A → Names
+names_in p = record {
+  title = p.title;
+  icon_name = p.icon_name;
+}
+
 abbrev pub shown_in : {A : Type 0} → State A → Shown
 shown_in p = record {
   grid = grid_of p.screen;
   known = known_in p;
-  title = p.title;
+  names = names_in p;
 }
 
--- The screen takes these steps, so much is known, the title is this, and these requests are added.
+-- The screen takes these steps, so much is known, the names are these, and these requests are
+-- added.
 pub record Does {A : Type 0} (p : State A) (xs : List Step) (ks : Known)
-    (t : Option (List ℕ)) (rs : List Request) (q : State A) : Type 0 where
+    (n : Names) (rs : List Request) (q : State A) : Type 0 where
   pub screen : Becomes p.screen (grid_from (size_of p.screen) (grid_of p.screen) xs) q.screen
   pub known : known_in q ≡ ks
-  pub title : q.title ≡ t
+  pub names : names_in q ≡ n
   pub requests : requests_in q ≡ requests_in p ++ rs
 
 -- it takes steps alone
 abbrev pub TakesSteps : {A : Type 0} → State A → List Step → State A → Type 0
-TakesSteps p xs q = Does p xs (known_in p) p.title [] q
+TakesSteps p xs q = Does p xs (known_in p) (names_in p) [] q
 
 -- it takes what a function does to the screen
 abbrev pub TakesFunction : {A : Type 0} → State A → Function → State A → Type 0
 TakesFunction p f q = Does p (function_steps (known_in p) p.screen.cursor f)
-    (function_known (known_in p) p.screen.cursor f) p.title [] q
+    (function_known (known_in p) p.screen.cursor f) (names_in p) [] q
 
 -- and what it asks for too
 abbrev pub TakesAll : {A : Type 0} → State A → Function → State A → Type 0
 TakesAll p f q = Does p (function_steps (known_in p) p.screen.cursor f)
-    (function_known (known_in p) p.screen.cursor f) p.title (request_list (function_request f)) q
+    (function_known (known_in p) p.screen.cursor f) (names_in p)
+    (request_list (function_request f)) q
 
 -- and so does a control sequence
 abbrev pub TakesSequence : {A : Type 0} → State A → CsiValue → State A → Type 0
 TakesSequence p c q = Does p (csi_steps (known_in p) p.screen.cursor c)
-    (function_known (known_in p) p.screen.cursor (of_csi c)) p.title
+    (function_known (known_in p) p.screen.cursor (of_csi c)) (names_in p)
     (request_list (function_request (of_csi c))) q
 
 -- a value does what its steps do
 abbrev pub TakesValue : {A : Type 0} → State A → Value A → State A → Type 0
 TakesValue p v q = Does p (steps_of (known_in p) p.screen.cursor v)
-    (known_by (known_in p) p.screen.cursor v) (title_by p.title v) (requests_of v) q
+    (known_by (known_in p) p.screen.cursor v) (names_by (names_in p) v) (requests_of v) q
 
 -- and so does an action
 abbrev pub Takes : {A : Type 0} → State A → Action A → State A → Type 0
@@ -118,6 +126,11 @@ styles_in (Some p) = Some p.styles
 abbrev pub title_in : {A : Type 0} → Option (State A) → Option (List ℕ)
 title_in None = None
 title_in (Some p) = p.title
+
+-- and the name of its icon
+abbrev pub icon_name_in : {A : Type 0} → Option (State A) → Option (List ℕ)
+icon_name_in None = None
+icon_name_in (Some p) = p.icon_name
 
 -- this holds of each stream that the terminal may have been fed
 abbrev pub After : {A : Type 0} → Terminal A → (Size → List ℕ → Type 0) → Type 0

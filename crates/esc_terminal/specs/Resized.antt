@@ -4,14 +4,14 @@ use Rattle.std.specs.List.{FoldsTo}
 use Rattle.esc_screen.specs.Grids.{Size}
 use Rattle.esc_screen.specs.Resized.{Resizes, leaving_rows, resized_grid, size_with}
 use Rattle.esc_screen.specs.Scrolled.{main_rows}
-use Rattle.esc_terminal.specs.Fed.{Stands, known_in, requests_in, shown_in}
+use Rattle.esc_terminal.specs.Fed.{Stands, known_in, names_in, requests_in, shown_in}
 use Rattle.esc_terminal.specs.Scrolled.{Row, with_known}
 use Rattle.esc_terminal.specs.Streams.{Shown}
 use Rattle.esc_terminal.specs.declared.keeping.Keeping.{Keeping}
 use Rattle.esc_terminal.specs.declared.state.State.{State}
 use Rattle.esc_terminal.specs.declared.terminal.Terminal.{Terminal}
 
--- a screen with looks and a title, after a change from one size to another
+-- a screen with looks and names, after a change from one size to another
 abbrev pub resized_shown : Size → Size → Shown → Shown
 resized_shown y z x = record x { grid = resized_grid y z x.grid }
 
@@ -25,7 +25,7 @@ off_by_size m x = with_known x.known (take (leaving_rows m x.grid) (main_rows x.
 pub record GetsSize {A : Type 0} (p : State A) (m n : ℕ) (q : State A) : Type 0 where
   pub screen : Resizes p.screen m n q.screen
   pub known : known_in q ≡ known_in p
-  pub title : q.title ≡ p.title
+  pub names : names_in q ≡ names_in p
   pub requests : requests_in q ≡ requests_in p
 
 -- so does a screen that hands out the rows that leave

@@ -8,12 +8,12 @@ ghost use Rattle.esc_style.specs.Looks.{look_by_all};
 ghost use Rattle.esc_sequences.specs.Csis.{csi_value, unspecified};
 ghost use Rattle.esc_screen.specs.Grids.{first_grid};
 ghost use Rattle.esc_screen.specs.Screens.{grid_of, size_of};
-ghost use Rattle.esc_terminal.specs.Fed.{Does, Takes, TakesAll, TakesFunction, TakesSequence, TakesSteps, known_in, requests_in, screen_size};
+ghost use Rattle.esc_terminal.specs.Fed.{Does, Takes, TakesAll, TakesFunction, TakesSequence, TakesSteps, known_in, names_in, requests_in, screen_size};
 ghost use Rattle.esc_terminal.specs.Links.{first_known, known_by_lead, known_by_look, known_look, lead_in, lead_in_parts, lead_of};
 ghost use Rattle.esc_terminal.specs.Requests.{request_list};
 ghost use Rattle.esc_terminal.specs.Resized.{GetsSize};
 ghost use Rattle.esc_terminal.specs.Steps.{choice_steps, lead_known, lead_steps, mode_steps, selected_steps};
-ghost use Rattle.esc_terminal.specs.Streams.{title_by_command};
+ghost use Rattle.esc_terminal.specs.Streams.{names_by_command, no_names};
 ghost use Rattle.typed_functions.specs.Functions.{value_of as function_value};
 ghost use Rattle.typed_functions.specs.Selections.{renditions_left, modes_left};
 ghost use Rattle.fallible_alloc.specs.Refusals.{Refused};
@@ -37,7 +37,7 @@ use memchr::memchr;
 use std::alloc::{AllocError, Allocator, Global};
 use typed_functions::{Function, ModeChange, Modes, Renditions, TabChange};
 
-/// The screen of a terminal, its title, and its requests since they were cleared.
+/// The screen of a terminal, its names, and its requests since they were cleared.
 #[derive(Drop)]
 pub(crate) struct State<A: Allocator = Global> {
     /// The screen.
@@ -46,16 +46,18 @@ pub(crate) struct State<A: Allocator = Global> {
     pub styles: Styles<A>,
     /// The title of its window, if it has one.
     pub title: Option<Text<A>>,
+    /// The name of its icon, if it has one.
+    pub icon_name: Option<Text<A>>,
     /// The requests to it.
     pub requests: Vec<Request, A>,
 }
 
 impl<A: Allocator + Copy> State<A> {
-    /// A blank screen, no title and no requests.
+    /// A blank screen, no names and no requests.
     pub fn new(alloc: A, columns: u16, rows: u16) -> Result<State<A>, AllocError>
         ensures grid { IfOk result (λ p. grid_of p.screen ≡ first_grid (screen_size columns rows)) }
         ensures size { IfOk result (λ p. size_of p.screen ≡ screen_size columns rows) }
-        ensures known { IfOk result (λ p. (known_in p ≡ first_known) × (p.title ≡ None)
+        ensures known { IfOk result (λ p. (known_in p ≡ first_known) × (names_in p ≡ no_names)
             × (requests_in p ≡ [])) }
         ensures refused { OnErr result (Refused A) }
     {
@@ -65,6 +67,7 @@ impl<A: Allocator + Copy> State<A> {
             screen,
             styles,
             title: None,
+            icon_name: None,
             requests: Vec::new(alloc),
         })
     }
@@ -75,19 +78,21 @@ impl<A: Allocator> State<A> {
     pub fn returning(self) -> State<A>
         ensures grid { grid_of result.screen ≡ grid_of self.screen }
         ensures size { size_of result.screen ≡ record (size_of self.screen) { returns = true } }
-        ensures known { (known_in result ≡ known_in self) × (result.title ≡ self.title) }
+        ensures known { (known_in result ≡ known_in self) × (names_in result ≡ names_in self) }
         ensures requests { requests_in result ≡ requests_in self }
     {
         let State {
             screen,
             styles,
             title,
+            icon_name,
             requests,
         } = self;
         State {
             screen: screen.returning(),
             styles,
             title,
+            icon_name,
             requests,
         }
     }
@@ -96,7 +101,7 @@ impl<A: Allocator> State<A> {
     pub fn cleared(mut self) -> State<A>
         ensures screen { result.screen ≡ self.screen }
         ensures known { known_in result ≡ known_in self }
-        ensures title { result.title ≡ self.title }
+        ensures names { names_in result ≡ names_in self }
         ensures requests { requests_in result ≡ [] }
     {
         self.requests.clear();
@@ -163,7 +168,7 @@ impl<A: Allocator> State<A> {
         ensures ok { OnOk result (Does self.old
             (selected_steps look.now self.old.screen.cursor.look (known_in self.old))
             (known_by_look look.now self.old.screen.cursor.look (known_in self.old))
-            self.old.title [] self.new) }
+            (names_in self.old) [] self.new) }
         ensures refused { OnErr result (Refused A) }
     {
         let link = self.styles.link_number(self.screen.cursor().look);
@@ -179,7 +184,7 @@ impl<A: Allocator> State<A> {
         ensures ok { OnOk result (Does self.old
             (lead_steps self.old.screen.cursor (known_in self.old) (Some (lead_of link)))
             (known_by_lead (lead_of link) self.old.screen.cursor.look (known_in self.old))
-            self.old.title [] self.new) }
+            (names_in self.old) [] self.new) }
         ensures refused { OnErr result (Refused A) }
     {
         let Cursor { look, erased, .. } = self.screen.cursor();
@@ -228,7 +233,7 @@ impl<A: Allocator> State<A> {
 
     /// Notes a request, if there is one.
     pub fn ask(&mut self, request: Option<Request>) -> Result<(), AllocError>
-        ensures ok { OnOk result (Does self.old [] (known_in self.old) self.old.title
+        ensures ok { OnOk result (Does self.old [] (known_in self.old) (names_in self.old)
             (request_list request) self.new) }
         ensures refused { OnErr result (Refused A) }
     {
@@ -272,19 +277,6 @@ impl<A: Allocator> State<A> {
         self.screen.take(csi_step(csi));
         Ok(())
     }
-
-    // Takes a command for the title.
-    fn take_title(&mut self, command: OperatingSystemCommand<A>)
-        ensures { Does self.old [] (known_in self.old) (title_by_command self.old.title command)
-            [] self.new }
-    {
-        match command {
-            OperatingSystemCommand::SetIconNameAndWindowTitle(title)
-            | OperatingSystemCommand::SetWindowTitle(title)
-            | OperatingSystemCommand::SetWindowTitleSun(title) => self.title = Some(title),
-            _ => {}
-        }
-    }
 }
 
 impl<A: Allocator + Copy> State<A> {
@@ -302,7 +294,7 @@ impl<A: Allocator + Copy> State<A> {
         ensures ok { OnOk result (Does self.old
             (lead_steps self.old.screen.cursor (known_in self.old) (lead_in_parts A parts.now))
             (lead_known self.old.screen.cursor (known_in self.old) (lead_in_parts A parts.now))
-            self.old.title [] self.new) }
+            (names_in self.old) [] self.new) }
         ensures refused { OnErr result (Refused A) }
     {
         let alloc = *self.requests.allocator();
@@ -312,21 +304,52 @@ impl<A: Allocator + Copy> State<A> {
         }
     }
 
-    // Takes a command for a link, or for the title.
+    // Takes a command for a name.
+    fn take_name(&mut self, command: OperatingSystemCommand<A>) -> Result<(), AllocError>
+        ensures ok { OnOk result (Does self.old [] (known_in self.old)
+            (names_by_command (names_in self.old) command) [] self.new) }
+        ensures refused { OnErr result (Refused A) }
+    {
+        match command {
+            OperatingSystemCommand::SetIconNameAndWindowTitle(name) => self.take_both(name),
+            OperatingSystemCommand::SetWindowTitle(title)
+            | OperatingSystemCommand::SetWindowTitleSun(title) => {
+                self.title = Some(title);
+                Ok(())
+            }
+            OperatingSystemCommand::SetIconName(name)
+            | OperatingSystemCommand::SetIconNameSun(name) => {
+                self.icon_name = Some(name);
+                Ok(())
+            }
+            _ => Ok(()),
+        }
+    }
+
+    // Takes a name for the icon that is the title too.
+    fn take_both(&mut self, name: Text<A>) -> Result<(), AllocError>
+        ensures ok { OnOk result (Does self.old [] (known_in self.old)
+            (record { title = Some name; icon_name = Some name }) [] self.new) }
+        ensures refused { OnErr result (Refused A) }
+    {
+        let alloc = *self.requests.allocator();
+        self.icon_name = Some(Text::from_str(alloc, name.as_str())?);
+        self.title = Some(name);
+        Ok(())
+    }
+
+    // Takes a command for a link, or for a name.
     fn take_command(&mut self, command: OperatingSystemCommand<A>) -> Result<(), AllocError>
         ensures ok { OnOk result (Does self.old
             (lead_steps self.old.screen.cursor (known_in self.old) (lead_in command))
             (lead_known self.old.screen.cursor (known_in self.old) (lead_in command))
-            (title_by_command self.old.title command) [] self.new) }
+            (names_by_command (names_in self.old) command) [] self.new) }
         ensures refused { OnErr result (Refused A) }
     {
         match command {
             OperatingSystemCommand::SetHyperlink(link) => self.lead(link),
             OperatingSystemCommand::Unspecified(parts) => self.lead_in_parts(parts.as_slice()),
-            other => {
-                self.take_title(other);
-                Ok(())
-            }
+            other => self.take_name(other),
         }
     }
 

@@ -2,7 +2,7 @@
 ghost use Rattle.std.specs.Prelude.{◌≡◌, ◌⊎◌, [], IfOk, IfSome, IsErr, IsSomeAnd, OnErr, OnOk};
 ghost use Rattle.std.specs.List.{FoldsTo};
 ghost use Rattle.std.specs.Option.{option_map};
-ghost use Rattle.esc_terminal.specs.Fed.{asked_in, screen_in, styles_in, title_in};
+ghost use Rattle.esc_terminal.specs.Fed.{asked_in, icon_name_in, screen_in, styles_in, title_in};
 ghost use Rattle.fallible_alloc.specs.Refusals.{Refused};
 
 use crate::keeping::Keeping;
@@ -14,13 +14,14 @@ use esc_parse::Parser;
 use esc_screen::{Cell, Screen};
 use std::alloc::{AllocError, Allocator, Global};
 
-// How many bytes of a title are kept.
+// How many bytes of a name are kept.
 const MOST: usize = 0x1000;
 
 /// Takes a stream in whatever chunks it comes, and has the screen that a terminal shows then.
 ///
 /// It keeps a screen of its size, which is made at once, at most 4,096 looks and 1,024 links of at
-/// most 4,096 bytes, a title of at most as many, and the requests of the last chunk.
+/// most 4,096 bytes, a title and the name of an icon of at most as many, and the requests of the
+/// last chunk.
 #[derive(Drop)]
 pub struct Terminal<A: Allocator = Global> {
     parser: Parser<A>,
@@ -118,7 +119,7 @@ impl<A: Allocator + Copy> Terminal<A> {
     }
 
     /// Gives its screen so many columns and rows, as xterm does ([`Screen::resize`]). Both should
-    /// be 1 at least. Its looks, links, title and requests stay.
+    /// be 1 at least. Its looks, links, names and requests stay.
     ///
     /// The error is that a request for memory was refused: nothing has changed then. After an error
     /// of [`feed`](Self::feed) it is that error.
@@ -206,6 +207,19 @@ impl<A: Allocator> Terminal<A> {
         match &self.state {
             Some(state) => match &state.title {
                 Some(title) => Some(title.as_str()),
+                None => None,
+            },
+            None => None,
+        }
+    }
+
+    /// Returns the name of its icon, if it has one.
+    pub fn icon_name(&self) -> Option<&str>
+        ensures { option_map (λ t. t.now) result ≡ icon_name_in self.now.state }
+    {
+        match &self.state {
+            Some(state) => match &state.icon_name {
+                Some(name) => Some(name.as_str()),
                 None => None,
             },
             None => None,

@@ -59,6 +59,13 @@ static uint32_t title(
     return escape_stream_screen_title(screen, out, capacity, needed);
 }
 
+static uint32_t icon_name(
+    struct escape_stream_screen *screen, size_t number, uint8_t *out, size_t capacity,
+    size_t *needed) {
+    (void)number;
+    return escape_stream_screen_icon_name(screen, out, capacity, needed);
+}
+
 static void wants_row(struct escape_stream_screen *screen, size_t row, const char *wanted) {
     wants_text(screen, escape_stream_screen_text, row, wanted);
 }
@@ -185,12 +192,13 @@ static void check_widths(void) {
     escape_stream_screen_end(&screen);
 }
 
-/* "Hyperlinks in terminal emulators"; OSC 0 and 2 of xterm. */
+/* "Hyperlinks in terminal emulators"; OSC 0, 1 and 2 of xterm. */
 static void check_strings(void) {
     struct escape_stream_screen screen = ESCAPE_STREAM_SCREEN_INIT;
     fed(&screen, "\x1b]2;a title\x1b\\\x1b]8;id=n;http://a/\x1b\\x\x1b]8;;http://b/\x1b\\y"
                  "\x1b]8;id=n;http://a/\x1b\\z\x1b]8;;\x1b\\.");
     wants_text(&screen, title, 0, "a title");
+    wants_text(&screen, icon_name, 0, "");
     wants(state_of(&screen).has_title && state_of(&screen).links == 2, "two links", "", 0);
     wants(cell(&screen, 0, 0).link == 1 && cell(&screen, 0, 1).link == 2, "a link", "", 0);
     wants(cell(&screen, 0, 2).link == 1 && cell(&screen, 0, 3).link == 0, "a link", "", 1);
@@ -201,8 +209,12 @@ static void check_strings(void) {
     wants_text(&screen, escape_stream_screen_link, SIZE_MAX, "");
     wants_text(&screen, escape_stream_screen_link_id, 1, "n");
     wants_text(&screen, escape_stream_screen_link_id, 2, "");
+    fed(&screen, "\x1b]0;both\x07\x1b]1;an icon\x07");
+    wants_text(&screen, title, 0, "both");
+    wants_text(&screen, icon_name, 0, "an icon");
     fed(&screen, "");
     wants_text(&screen, title, 0, "");
+    wants_text(&screen, icon_name, 0, "");
     escape_stream_screen_end(&screen);
 }
 

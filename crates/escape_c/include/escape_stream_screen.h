@@ -180,6 +180,10 @@ uint32_t escape_stream_screen_text(
 uint32_t escape_stream_screen_title(
     struct escape_stream_screen *screen, uint8_t *out, size_t capacity, size_t *needed);
 
+/* The same of the name of its icon (OSC 0, 1 and L). */
+uint32_t escape_stream_screen_icon_name(
+    struct escape_stream_screen *screen, uint8_t *out, size_t capacity, size_t *needed);
+
 /*
  * Writes the address of a link (OSC 8), as much as fits, and its length: 0 where there is no such
  * link. Links are counted from 1, and one that came again has the same number.

@@ -70,10 +70,10 @@ pub use sanitizer::{
 };
 pub use screen::{
     escape_stream_screen_begin, escape_stream_screen_cells, escape_stream_screen_changed,
-    escape_stream_screen_end, escape_stream_screen_feed, escape_stream_screen_link,
-    escape_stream_screen_link_id, escape_stream_screen_requests, escape_stream_screen_resize,
-    escape_stream_screen_scrolled, escape_stream_screen_state_of, escape_stream_screen_text,
-    escape_stream_screen_title,
+    escape_stream_screen_end, escape_stream_screen_feed, escape_stream_screen_icon_name,
+    escape_stream_screen_link, escape_stream_screen_link_id, escape_stream_screen_requests,
+    escape_stream_screen_resize, escape_stream_screen_scrolled, escape_stream_screen_state_of,
+    escape_stream_screen_text, escape_stream_screen_title,
 };
 pub use string::{
     escape_stream_apc_function, escape_stream_dcs_function, escape_stream_osc_function,

@@ -4,7 +4,7 @@ ghost use Rattle.esc_calls.specs.CellRows.{request_row};
 ghost use Rattle.esc_calls.specs.InChunks.{IsEnded, Stays};
 ghost use Rattle.esc_calls.specs.Kept.{screen_in};
 ghost use Rattle.esc_calls.specs.Output.{Puts};
-ghost use Rattle.esc_calls.specs.Screens.{ScreenHasConsumed, ScreenStands, ScreenStandsWith, ScreenTakes, Tells, cells_shown, shown_by, size_for, text_shown, title_shown};
+ghost use Rattle.esc_calls.specs.Screens.{ScreenHasConsumed, ScreenStands, ScreenStandsWith, ScreenTakes, Tells, cells_shown, icon_name_shown, shown_by, size_for, text_shown, title_shown};
 ghost use Rattle.esc_screen.specs.Grids.{Size};
 ghost use Rattle.esc_terminal.specs.Fed.{requests_now};
 ghost use Rattle.esc_terminal.specs.Streams.{Shown};
@@ -157,6 +157,23 @@ pub extern "C" fn escape_stream_screen_title(
         × (out.new ≡ out.old) × (needed.new ≡ needed.old) }
 {
     screen_chunks::screen_title(alloc, screen, out, needed)
+}
+
+/// Writes the name of the icon, as much of it as fits, and its length.
+#[unsafe(no_mangle)]
+pub extern "C" fn escape_stream_screen_icon_name(
+    alloc: Global,
+    screen: &mut InChunks,
+    out: &mut [u8],
+    needed: &mut usize,
+) -> u32
+    ensures shown { (z : Size) (s : List ℕ) → ScreenHasConsumed z s screen.old
+        → result ≡ DONE → Puts (icon_name_shown (shown_by z s)) out.old out.new needed.new }
+    ensures kept { result ≡ DONE → Stays screen.old screen.new }
+    ensures refused { result ≢ DONE → (result ≡ NOT_BEGUN) × IsEnded screen.new
+        × (out.new ≡ out.old) × (needed.new ≡ needed.old) }
+{
+    screen_chunks::screen_icon_name(alloc, screen, out, needed)
 }
 
 /// Writes the requests of the last chunk, as there is room, and their number.

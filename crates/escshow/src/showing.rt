@@ -123,6 +123,7 @@ pub fn view_of(terminal: &Terminal, has_looks: bool) -> Result<View<'_>, AllocEr
             screen,
             styles,
             title: terminal.title(),
+            icon_name: terminal.icon_name(),
             has_looks,
         }),
         _ => Err(AllocError),

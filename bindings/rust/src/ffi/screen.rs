@@ -33,6 +33,12 @@ extern "C" {
         capacity: usize,
         needed: *mut usize,
     ) -> u32;
+    fn escape_stream_screen_icon_name(
+        screen: *mut Screen,
+        out: *mut u8,
+        capacity: usize,
+        needed: *mut usize,
+    ) -> u32;
     fn escape_stream_screen_link(
         screen: *mut Screen,
         number: usize,
@@ -206,6 +212,16 @@ impl Screen {
         // SAFETY: as in `cells`.
         let status =
             unsafe { escape_stream_screen_title(self, out.as_mut_ptr(), out.len(), &mut needed) };
+        said(status, needed)
+    }
+
+    /// Writes the name of the icon.
+    pub fn icon_name(&mut self, out: &mut [u8]) -> Result<usize, Error> {
+        let mut needed = 0;
+        // SAFETY: as in `cells`.
+        let status = unsafe {
+            escape_stream_screen_icon_name(self, out.as_mut_ptr(), out.len(), &mut needed)
+        };
         said(status, needed)
     }
 

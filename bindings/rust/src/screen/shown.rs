@@ -16,12 +16,13 @@ pub struct Link {
     pub id: Option<String>,
 }
 
-/// The screen of a terminal: its cells, its cursor, its title and its links.
+/// The screen of a terminal: its cells, its cursor, its names and its links.
 #[derive(Clone, Debug, Default)]
 pub struct Screen {
     pub(super) state: ScreenState,
     rows: Vec<Vec<Cell>>,
     title: String,
+    icon_name: String,
     links: Vec<Link>,
 }
 
@@ -64,6 +65,11 @@ impl Screen {
     /// The title of the window; nothing where it has none.
     pub fn title(&self) -> &str {
         &self.title
+    }
+
+    /// The name of its icon; nothing where it has none.
+    pub fn icon_name(&self) -> &str {
+        &self.icon_name
     }
 
     /// A cell, by its row and its column, from 0 on.
@@ -129,6 +135,7 @@ impl Screen {
             self.rows[row] = cell::read(columns, |room| raw.cells(row, room))?;
         }
         self.title = text_of(|out| raw.title(out))?;
+        self.icon_name = text_of(|out| raw.icon_name(out))?;
         for number in self.links.len() + 1..=state.links {
             let address = text_of(|out| raw.link(number, out))?;
             let id = text_of(|out| raw.link_id(number, out))?;

@@ -12,7 +12,7 @@ returns-in-Ok-clause-given g c = λ z s h.
     (sym c.take.ensures.value ∙ c.in-Some.is) h.state in
     let m = shows_more z s c.args.bytes.now c.cleared.result _ c.cleared.ensures.requests
     (shows_cleared z s _ c.cleared.result c.cleared.ensures.screen c.cleared.ensures.known
-    c.cleared.ensures.title at)
+    c.cleared.ensures.names at)
     k.1 in (
       record {
         parser = k.0;
@@ -36,7 +36,7 @@ returns-in-Ok-clause-goes_on g c = record {
       (sym c.take.ensures.value ∙ c.in-Some.is) h.state in
       let m = stands_more z x s c.args.bytes.now c.cleared.result _ c.cleared.ensures.requests
       (shown_cleared z x _ c.cleared.result c.cleared.ensures.screen c.cleared.ensures.known
-      c.cleared.ensures.title at)
+      c.cleared.ensures.names at)
       k.1 in (
         record {
           parser = k.0;

@@ -12,7 +12,7 @@ returns-in-Ok-clause-given g c = λ z s h.
     let at = subst (λ x. IsSomeAnd x (Shows z s))
     (sym c.take.ensures.value ∙ c.in-Some.is) h.state in
     let old = shows_cleared z s _ c.cleared.result c.cleared.ensures.screen
-    c.cleared.ensures.known c.cleared.ensures.title at in
+    c.cleared.ensures.known c.cleared.ensures.names at in
     let all = all_kept g.R.Rows.takes _ _ _ k.1 in
     let m = shows_more z s c.args.bytes.now c.cleared.result _ c.cleared.ensures.requests old
     all.0 in (
@@ -40,7 +40,7 @@ returns-in-Ok-clause-goes_on g c = record {
       let at = subst (λ o. IsSomeAnd o (IsShown z x))
       (sym c.take.ensures.value ∙ c.in-Some.is) h.state in
       let old = shown_cleared z x _ c.cleared.result c.cleared.ensures.screen
-      c.cleared.ensures.known c.cleared.ensures.title at in
+      c.cleared.ensures.known c.cleared.ensures.names at in
       let all = all_kept g.R.Rows.takes _ _ _ k.1 in
       let m = stands_more z x s c.args.bytes.now c.cleared.result _ c.cleared.ensures.requests
       old all.0 in (
