@@ -1,5 +1,5 @@
 //! The state of a terminal, value by value.
-ghost use Rattle.std.specs.Prelude.{◌≡◌, [], ◌∷◌, false, None, OnErr, OnOk, IfOk, map, true};
+ghost use Rattle.std.specs.Prelude.{◌≡◌, [], ◌∷◌, false, OnErr, OnOk, IfOk, map, true};
 ghost use Rattle.std.specs.List.{FoldsTo};
 ghost use Rattle.std.specs.Str.{chars};
 ghost use Rattle.esc_actions.specs.declared.action.Action.TheVariants as action;
