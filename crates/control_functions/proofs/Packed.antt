@@ -6,33 +6,21 @@ use Rattle.control_functions.specs.Rows.{base_256}
 use Rattle.control_functions.specs.Functions.{mark_of, marks, put_mark}
 
 -- the mark that a parameter adds
-packed_next : (p : ℕ) (es : List CsiParam) (i : ℕ) (e : CsiParam) → i < length es
+pub packed_next : (p : ℕ) (es : List CsiParam) (i : ℕ) (e : CsiParam) → i < length es
     → base_256 p (marks (drop i es))
     ≡ base_256 p (put_mark (mark_of (get_or es i e)) (marks (drop (i + 1) es)))
 packed_next p es i e lt = at_drop_more (λ ds. base_256 p (marks ds)) es i e lt
 
-pub no_mark : (p : ℕ) (es : List CsiParam) (i : ℕ) (e : CsiParam) → i < length es
-    → mark_of (get_or es i e) ≡ None
-    → base_256 p (marks (drop i es)) ≡ base_256 p (marks (drop (i + 1) es))
-no_mark p es i e lt none =
-    packed_next p es i e lt
-    ∙ ap (λ o. base_256 p (put_mark o (marks (drop (i + 1) es)))) none
-
-pub one_mark : (p : ℕ) (es : List CsiParam) (i b : ℕ) (e : CsiParam) → i < length es
-    → mark_of (get_or es i e) ≡ Some b
-    → base_256 p (marks (drop i es)) ≡ base_256 (256 * p + b) (marks (drop (i + 1) es))
-one_mark p es i b e lt some =
-    packed_next p es i e lt
-    ∙ ap (λ o. base_256 p (put_mark o (marks (drop (i + 1) es)))) some
+pub more_packed : (p b : ℕ) (bs : List ℕ) → base_256 p (b ∷ bs) ≡ base_256 (p * 0x100 + b) bs
+more_packed p b bs = ap (λ n. base_256 n bs) (omega arith)
 
 -- more bytes make no less
 pub packed_grows : (p : ℕ) (bs : List ℕ) → p ≤ base_256 p bs
 packed_grows p [] = omega arith
 packed_grows p (b ∷ bs) = let more = packed_grows (256 * p + b) bs in omega arith
 
-pub third_mark : (p : ℕ) (es : List CsiParam) (i b : ℕ) (e : CsiParam) → i < length es
-    → mark_of (get_or es i e) ≡ Some b → 0x1_0000 ≤ p → 2 ^ 24 ≤ base_256 p (marks (drop i es))
-third_mark p es i b e lt some two =
-    let is = one_mark p es i b e lt some in
-    let more = packed_grows (256 * p + b) (marks (drop (i + 1) es)) in
-    omega arith
+pub too_many : (p b : ℕ) (bs : List ℕ) → 0x1_0000 ≤ p → 2 ^ 24 ≤ base_256 p (b ∷ bs)
+too_many p b bs two = let more = packed_grows (256 * p + b) bs in omega arith
+
+pub few_more : (p b : ℕ) → p < 0x1_0000 → b < 0x100 → p * 0x100 + b < 2 ^ 24
+few_more p b h k = omega (arith, h, k)

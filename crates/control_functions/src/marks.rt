@@ -1,5 +1,5 @@
 //! The private prefix and the intermediates of a control sequence, and its key.
-ghost use Rattle.std.specs.Prelude.{◌≡◌, ◌<◌, ◌≤◌, ◌^◌, ◌+◌, ◌*◌, [], IfNone, IfSome};
+ghost use Rattle.std.specs.Prelude.{◌≡◌, ◌<◌, ◌≤◌, ◌^◌, ◌+◌, ◌*◌, ℕ, List, [], ◌∷◌, IfNone, IfSome};
 ghost use Rattle.control_functions.specs.Functions.{is_long, key_with, key_beginning, mark_of, marks, put_mark};
 ghost use Rattle.control_functions.specs.Rows.{base_256};
 
@@ -7,7 +7,7 @@ use esc_values::CsiParam;
 
 // Returns the marks of these parameters, as digits to the base 256 after a 1. `None` if there are
 // more than two, which no function has.
-#[tactic(auto, using(crate::proofs::Packed::no_mark, crate::proofs::Packed::one_mark, crate::proofs::Packed::third_mark))]
+#[tactic(auto, using(crate::proofs::Packed::packed_next))]
 #[inline]
 pub(crate) fn packed_marks(csi_params: &[CsiParam]) -> Option<u32>
     ensures same { IfSome result (λ m. m ≡ base_256 1 (marks csi_params.now)) }
@@ -16,14 +16,36 @@ pub(crate) fn packed_marks(csi_params: &[CsiParam]) -> Option<u32>
 {
     let mut packed = 1;
     for entry in csi_params {
-        if let Some(mark) = mark_of(*entry) {
-            if packed >= 0x1_0000 {
-                return None;
-            }
-            packed = packed * 0x100 + mark as u32;
-        }
+        packed = with_mark(packed, mark_of(*entry))?;
     }
     Some(packed)
+}
+
+// Returns these marks and one more, if there is one; `None` if that is the third.
+#[tactic(auto, using(crate::proofs::Packed::too_many))]
+#[inline]
+fn with_mark(packed: u32, mark: Option<u8>) -> Option<u32>
+    requires { packed < 2 ^ 24 }
+    ensures same { IfSome result (λ m. (bs : List ℕ)
+        → base_256 packed (put_mark mark bs) ≡ base_256 m bs) }
+    ensures few { IfSome result (λ m. m < 2 ^ 24) }
+    ensures many { IfNone result ((bs : List ℕ) → 2 ^ 24 ≤ base_256 packed (put_mark mark bs)) }
+{
+    match mark {
+        None => Some(packed),
+        Some(mark) if packed < 0x1_0000 => Some(pushed(packed, mark)),
+        Some(_) => None,
+    }
+}
+
+// Returns these marks and one more.
+#[inline]
+fn pushed(packed: u32, mark: u8) -> u32
+    requires { packed < 0x1_0000 }
+    ensures same { (bs : List ℕ) → base_256 packed (mark ∷ bs) ≡ base_256 result bs }
+    ensures few { result < 2 ^ 24 }
+{
+    packed * 0x100 + mark as u32
 }
 
 // Returns the byte of the parameter, if it is no number and separates no two.
