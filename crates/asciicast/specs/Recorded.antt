@@ -2,7 +2,7 @@
 use Rattle.std.specs.Prelude.{ℕ, ◌≡◌, ◌≢◌, Bool, true, false, List, [], ◌++◌, codes, string_bytes}
 use Rattle.json.specs.Print.{IsNumber}
 use Rattle.esc_normal.specs.declared.feeding.StreamFilter.{Ghosts as Feeder}
-use Rattle.asciicast.specs.Recordings.{IsEvent, Kind, header, input, other, output, wrong}
+use Rattle.asciicast.specs.Recordings.{IsEvent, Kind, header, input, other, output, passed, wrong}
 use Rattle.asciicast.specs.declared.recording.Recording.{Recording}
 
 abbrev pub feeding_of : {F A : Type 0} → Recording F A → F
@@ -12,7 +12,7 @@ feeding_of r = r.feeding
 abbrev pub text_of : {F A : Type 0} → Recording F A → List ℕ
 text_of r = r.text.items
 
--- the time of the last event of output; empty if there was none
+-- the time of the last event; empty if there was none
 abbrev pub time_of : {F A : Type 0} → Recording F A → List ℕ
 time_of r = string_bytes r.time
 
@@ -28,9 +28,19 @@ drops_input r = r.drops_input
 abbrev pub is_relative_after : Kind → Bool → Bool
 is_relative_after (output t d) r = r
 is_relative_after (input t) r = r
+is_relative_after (passed t) r = r
 is_relative_after (header b) r = b
 is_relative_after other r = r
 is_relative_after wrong r = r
+
+-- the time of the last event after a line of this kind, if it was this before
+abbrev pub time_after : Kind → List ℕ → List ℕ
+time_after (output t d) x = t
+time_after (input t) x = t
+time_after (passed t) x = t
+time_after (header b) x = x
+time_after other x = x
+time_after wrong x = x
 
 -- q has the filter of p, its last line, the time of its last event, counts times as it does, and
 -- keeps the same of events of input
@@ -48,8 +58,8 @@ abbrev pub Hears : {F A : Type 0} → Feeder F A → (List ℕ → List ℕ) →
 Hears V m c s t d r = V.gives (feeding_of r) m c (s ++ d)
     × ((a : List ℕ) × (m (s ++ d) ≡ m s ++ a) × IsEvent t a (text_of r))
 
--- the time of the event after the last event of output, which has this time: the same, or 0 if
--- times are counted from the event before, or there was none
+-- the time of the event after the last event, which has this time: the same, or 0 if times are
+-- counted from the event before, or there was none
 pub record IsEndTime (is_relative : Bool) (last t : List ℕ) : Type 0 where
   pub since_before : is_relative ≡ true → t ≡ codes "0"
   pub first : (IsNumber last → ⊥) → t ≡ codes "0"

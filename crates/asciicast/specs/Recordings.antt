@@ -11,11 +11,13 @@ use Rattle.json.specs.Token.Token.{begin_array, end_array, number, string}
 use Rattle.asciicast.specs.declared.line.Line.{Line}
 use Rattle.asciicast.specs.declared.line.Line.TheVariants as seen
 
--- A line of a recording: an event of output with its time and text; one of input with its time; a
--- header, with times counted from the event before, or not; another line; or none.
+-- A line of a recording: an event of output with its time and text; one of input, or of another
+-- kind, with its time; a header, with times counted from the event before, or not; a comment or no
+-- text; or no line of a recording.
 pub data Kind : Type 0 where
   output : List ℕ → List ℕ → Kind
   input : List ℕ → Kind
+  passed : List ℕ → Kind
   header : Bool → Kind
   other : Kind
   wrong : Kind
@@ -28,7 +30,7 @@ is_input k = bytes_eq k (codes "i")
 
 -- an event of this time, kind and text
 abbrev pub kind_at : List ℕ → List ℕ → List ℕ → Kind
-kind_at t k d = if is_output k then output t d else if is_input k then input t else other
+kind_at t k d = if is_output k then output t d else if is_input k then input t else passed t
 
 -- an array of a time, a kind and a text
 abbrev pub event_kind : List Token → Kind
@@ -79,14 +81,16 @@ kind_of l = kind_by (first_byte l) l
 abbrev pub kind_seen : Line → Kind
 kind_seen (seen.Output t d) = output t.now d.now
 kind_seen (seen.Input t) = input t.now
+kind_seen (seen.Passed t) = passed t.now
 kind_seen (seen.Header b) = header b
 kind_seen seen.Other = other
 kind_seen seen.Wrong = wrong
 
--- the time of an event of output or input is a number of JSON
+-- the time of an event is a number of JSON
 abbrev pub HasNumber : Line → Type 0
 HasNumber (seen.Output t d) = IsNumber t.now
 HasNumber (seen.Input t) = IsNumber t.now
+HasNumber (seen.Passed t) = IsNumber t.now
 HasNumber _ = Unit {0}
 
 -- ---- the text that is written
@@ -137,6 +141,7 @@ spelled_line l =
 abbrev pub IsUnheard : Kind → Type 0
 IsUnheard (output t d) = ⊥
 IsUnheard (input t) = Unit {0}
+IsUnheard (passed t) = Unit {0}
 IsUnheard (header b) = Unit {0}
 IsUnheard other = Unit {0}
 IsUnheard wrong = ⊥

@@ -16,9 +16,11 @@ pub enum Line<'a> {
     Output(&'a str, &'a str),
     /// An event of input: its time, as it is written.
     Input(&'a str),
+    /// An event of another kind: its time, as it is written.
+    Passed(&'a str),
     /// The header, with times counted from the event before: of version 3, and not of 2.
     Header(bool),
-    /// An event of another kind, a comment, or white space alone.
+    /// A comment, or white space alone.
     Other,
     /// Something else.
     Wrong,
@@ -116,7 +118,7 @@ fn event_at<'a>(time: &'a str, kind: &str, text: &'a str) -> Line<'a>
     } else if kind == "i" {
         Line::Input(time)
     } else {
-        Line::Other
+        Line::Passed(time)
     }
 }
 

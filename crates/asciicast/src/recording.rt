@@ -1,5 +1,5 @@
 //! A recording that is filtered line by line.
-ghost use Rattle.std.specs.Prelude.{◌≡◌, ◌≢◌, ◌++◌, ◌∷◌, ℕ, List, [], IfOk, OnOk, codes, false, true};
+ghost use Rattle.std.specs.Prelude.{◌≡◌, ◌≢◌, ◌++◌, ◌∷◌, ℕ, List, [], IfOk, OnOk, codes, false, string_bytes, true};
 ghost use Rattle.json.specs.Print.{IsNumber};
 ghost use Rattle.esc_normal.specs.Streams.{Given};
 ghost use Rattle.asciicast.specs.Recorded.{IsEndTime};
@@ -27,7 +27,7 @@ pub struct Recording<F, A: Allocator = Global> {
     scratch: Scratch<A>,
     // the line that the last call gave
     text: Vec<u8, A>,
-    // the time of the last event of output
+    // the time of the last event
     time: String<A>,
     // says whether the time of an event is counted from the event before
     is_relative: bool,
@@ -36,7 +36,7 @@ pub struct Recording<F, A: Allocator = Global> {
 }
 
 impl<F: StreamFilter<A>, A: Allocator + Copy> Recording<F, A> {
-    ghost use Rattle.asciicast.specs.Recorded.{Closes, Hears, IsAs, drops_input, feeding_of, is_relative, is_relative_after, text_of, time_of};
+    ghost use Rattle.asciicast.specs.Recorded.{Closes, Hears, IsAs, drops_input, feeding_of, is_relative, is_relative_after, text_of, time_after, time_of};
 
     /// Returns a recording that took no line, for a filter that was fed nothing. Takes no memory.
     pub fn new(alloc: A, feeding: F) -> Recording<F, A>
@@ -79,7 +79,8 @@ impl<F: StreamFilter<A>, A: Allocator + Copy> Recording<F, A> {
         ensures other { IsUnheard (kind_of line.now) → OnOk result
             ((feeding_of self.new ≡ feeding_of self.old)
             × StaysAs (kind_of line.now) (drops_input self.old) line.now (text_of self.new)
-            × (time_of self.new ≡ time_of self.old) × (is_relative self.new
+            × (time_of self.new ≡ time_after (kind_of line.now) (time_of self.old))
+            × (is_relative self.new
             ≡ is_relative_after (kind_of line.now) (is_relative self.old))) }
         ensures right { OnOk result ((kind_of line.now ≢ wrong)
             × (drops_input self.new ≡ drops_input self.old)) }
@@ -91,26 +92,30 @@ impl<F: StreamFilter<A>, A: Allocator + Copy> Recording<F, A> {
             Line::Output(time, data) => {
                 self.feeding.feed(data.as_bytes())?;
                 self.text = event(self.alloc, time, "o", self.feeding.output())?;
-                self.time.clear();
-                self.time.push_str(time)?;
+                put(&mut self.time, time)?;
                 Ok(())
             }
             Line::Input(time) if self.drops_input => {
                 self.text = event(self.alloc, time, "i", "")?;
+                put(&mut self.time, time)?;
                 Ok(())
+            }
+            Line::Input(time) | Line::Passed(time) => {
+                put(&mut self.time, time)?;
+                self.pass(line)
             }
             Line::Header(is_relative) => {
                 self.is_relative = is_relative;
                 self.pass(line)
             }
-            Line::Input(_) | Line::Other => self.pass(line),
+            Line::Other => self.pass(line),
             Line::Wrong => Err(CastError::NoEvent),
         }
     }
 
     /// Ends the recording. If the end of the stream adds something, as a text that takes back a
     /// colour, the [`text`](Recording::text) is an event of output with it, at the time of the last
-    /// one; else it is empty. The error is that memory was refused.
+    /// event; else it is empty. The error is that memory was refused.
     pub fn finish(&mut self) -> Result<(), CastError>
         ensures given { Given F.StreamFilter (feeding_of self.old) (λ m c s.
             OnOk result (Closes m c s self.old self.new)) }
@@ -170,6 +175,15 @@ impl<F: StreamFilter<A>, A: Allocator + Copy> Recording<F, A> {
         self.text.extend_from_slice(b"\n")?;
         Ok(())
     }
+}
+
+// Puts a time in the place of another.
+fn put<A: Allocator>(last: &mut String<A>, time: &str) -> Result<(), AllocError>
+    ensures { OnOk result (string_bytes last.new ≡ time.now) }
+{
+    last.clear();
+    last.push_str(time)?;
+    Ok(())
 }
 
 // Returns the time of the event that the end adds, if the last event had this time.
