@@ -12,6 +12,7 @@ mod kept;
 mod options;
 mod reading;
 mod recorded;
+mod run;
 mod seconds;
 mod showing;
 mod svg;

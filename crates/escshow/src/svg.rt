@@ -1,8 +1,9 @@
 //! A screen as a picture (SVG 1.1).
+ghost use Rattle.std.specs.Prelude.{◌<◌};
 
 use crate::ink::{ink_of, plain};
+use crate::run::Run;
 use esc_html::push_text;
-use esc_screen::{Cell, Content, Marks};
 use esc_sequences::Underline;
 use esc_sheet::View;
 use esc_style::Look;
@@ -11,66 +12,38 @@ use fallible_alloc::{push_char, push_display, push_str};
 use std::alloc::{AllocError, Global};
 use unicode_visibility::{belongs, hex_digit, is_shown, number_text};
 
-// The width of a column, the height of a row, and the base line of its characters, in pixels.
-const WIDTH: u32 = 9;
+/// The width of a column, the height of a row, and the base line of its characters, in pixels.
+pub(crate) const WIDTH: u32 = 9;
 
-const HEIGHT: u32 = 19;
+pub(crate) const HEIGHT: u32 = 19;
 
 const BASE: u32 = 15;
 
-// The space around the screen.
-const MARGIN: u32 = 12;
+/// The space around the screen.
+pub(crate) const MARGIN: u32 = 12;
 
 // The attributes of the root: a column is as wide as a character of a fixed font of 15 pixels.
 const FONT: &str = "font-family=\"ui-monospace,SFMono-Regular,Menlo,Consolas,monospace\" \
     font-size=\"15\" xml:space=\"preserve\">\n";
 
-// Characters of one row in one look.
+/// The text of a picture. Once a request for memory is refused, it lacks some of it.
 #[derive(Drop)]
-struct Run {
-    // the column of the first
-    column: u32,
-    // the number of columns
-    width: u32,
-    // the number of their look
-    number: u16,
-    // says whether it is one wide character
-    is_wide: bool,
-    // the number of blank columns at its end
-    blanks: u32,
-    // the characters before these, each spelled that does not show
+pub struct Svg {
     text: String,
+    is_refused: bool,
 }
 
 /// Returns the picture of a screen. Characters of the screen are text in it, with `&`, `<` and `>`
 /// as character references, and links are left out. The error is that memory was refused.
 pub fn picture_of(alloc: Global, view: View<'_>) -> Result<String, AllocError> {
-    let mut svg = String::new(alloc);
-    push_head(&mut svg, alloc, view)?;
+    let title = spelled(alloc, view.title.unwrap_or("Screen"))?;
+    let mut svg = Svg::new(alloc);
+    svg.begin(view, title.as_str());
     for at in 0..view.screen.height() {
         push_row(&mut svg, alloc, view, at)?;
     }
-    push_str(&mut svg, "</svg>\n")?;
-    Ok(svg)
-}
-
-// Appends the root with its size, the title, and the ground.
-fn push_head(svg: &mut String, alloc: Global, view: View<'_>) -> Result<(), AllocError> {
-    let width = u32::from(view.screen.width()) * WIDTH + 2 * MARGIN;
-    let height = u32::from(view.screen.height()) * HEIGHT + 2 * MARGIN;
-    push_str(svg, "<svg xmlns=\"http://www.w3.org/2000/svg\"")?;
-    push_number(svg, " width", width)?;
-    push_number(svg, " height", height)?;
-    push_str(svg, " ")?;
-    push_str(svg, FONT)?;
-    push_str(svg, "<title>")?;
-    push_text(
-        svg,
-        spelled(alloc, view.title.unwrap_or("Screen"))?.as_str(),
-    )?;
-    push_str(svg, "</title>\n<rect width=\"100%\" height=\"100%\"")?;
-    push_color(svg, " fill", plain().ground)?;
-    push_str(svg, "/>\n")
+    svg.push("</svg>\n");
+    svg.ended()
 }
 
 // Returns a text with each character spelled that does not show.
@@ -84,9 +57,13 @@ fn spelled(alloc: Global, text: &str) -> Result<String, AllocError> {
     Ok(shown)
 }
 
-// Appends a character after this one: its number, if it neither shows nor belongs to that, or if
-// it may not be in XML.
-fn append_shown(text: &mut String, last: Option<char>, c: char) -> Result<(), AllocError> {
+/// Appends a character after this one: its number, if it neither shows nor belongs to that, or if
+/// it may not be in XML.
+pub(crate) fn append_shown(
+    text: &mut String,
+    last: Option<char>,
+    c: char,
+) -> Result<(), AllocError> {
     if is_in_xml(c) && (is_shown(c) || belongs(last, c)) {
         push_char(text, c)
     } else {
@@ -100,12 +77,12 @@ fn is_in_xml(c: char) -> bool {
 }
 
 // Appends the runs of a row.
-fn push_row(svg: &mut String, alloc: Global, view: View<'_>, at: u16) -> Result<(), AllocError> {
+fn push_row(svg: &mut Svg, alloc: Global, view: View<'_>, at: u16) -> Result<(), AllocError> {
     push_runs(svg, view, at, &mut Run::new(alloc))
 }
 
 // Appends the runs of a row by way of this one, to which no cell came.
-fn push_runs(svg: &mut String, view: View<'_>, at: u16, run: &mut Run) -> Result<(), AllocError> {
+fn push_runs(svg: &mut Svg, view: View<'_>, at: u16, run: &mut Run) -> Result<(), AllocError> {
     let mut column: u32 = 0;
     for cell in view.row(at) {
         if !run.goes_on(cell) {
@@ -118,193 +95,9 @@ fn push_runs(svg: &mut String, view: View<'_>, at: u16, run: &mut Run) -> Result
     run.push(svg, view, at)
 }
 
-impl Run {
-    // Returns a run of no cell.
-    fn new(alloc: Global) -> Run {
-        Run {
-            column: 0,
-            width: 0,
-            number: 0,
-            is_wide: false,
-            blanks: 0,
-            text: String::new(alloc),
-        }
-    }
-
-    // Begins anew with this cell, still without it.
-    fn begin(&mut self, column: u32, cell: &Cell) {
-        self.column = column;
-        self.width = 0;
-        self.number = cell.look;
-        self.is_wide = false;
-        self.blanks = 0;
-        self.text.clear();
-    }
-
-    // Returns whether this cell is one more of it.
-    fn goes_on(&self, cell: &Cell) -> bool {
-        if self.width == 0 {
-            return false;
-        }
-        match cell.content {
-            Content::Rest => true,
-            Content::Wide(_, _) => false,
-            Content::Blank | Content::Narrow(_, _) => !self.is_wide && cell.look == self.number,
-        }
-    }
-
-    // Adds this cell.
-    fn add_cell(&mut self, cell: &Cell) -> Result<(), AllocError> {
-        self.width = self.width.saturating_add(1);
-        match cell.content {
-            Content::Blank => self.blanks = self.blanks.saturating_add(1),
-            Content::Rest => {}
-            Content::Narrow(' ', marks) if marks.first.is_none() => {
-                self.blanks = self.blanks.saturating_add(1);
-            }
-            Content::Narrow(c, marks) => self.add(c, marks)?,
-            Content::Wide(c, marks) => {
-                self.is_wide = true;
-                self.add(c, marks)?;
-            }
-        }
-        Ok(())
-    }
-
-    // Adds spaces for the blank columns.
-    fn fill(&mut self) -> Result<(), AllocError> {
-        for _ in 0..self.blanks {
-            push_char(&mut self.text, ' ')?;
-        }
-        self.blanks = 0;
-        Ok(())
-    }
-
-    // Adds a character with its marks.
-    fn add(&mut self, c: char, marks: Marks) -> Result<(), AllocError> {
-        self.fill()?;
-        append_shown(&mut self.text, None, c)?;
-        for mark in [marks.first, marks.second] {
-            if let Some(mark) = mark {
-                append_shown(&mut self.text, Some(c), mark)?;
-            }
-        }
-        Ok(())
-    }
-
-    // Appends the ground of the run and its characters, where something is seen of them.
-    fn push(&mut self, svg: &mut String, view: View<'_>, row: u16) -> Result<(), AllocError> {
-        if self.width == 0 {
-            return Ok(());
-        }
-        let look = view.look_at(self.number);
-        let left = MARGIN.saturating_add(self.column.saturating_mul(WIDTH));
-        let top = MARGIN.saturating_add(u32::from(row) * HEIGHT);
-        push_ground(svg, &look, left, top, self.width)?;
-        if has_lines(&look) {
-            self.fill()?;
-        }
-        let width = self.width.saturating_sub(self.blanks);
-        if look.concealed || width == 0 {
-            return Ok(());
-        }
-        push_characters(svg, &look, left, top, width, self.text.as_str())
-    }
-}
-
-// Appends the characters of so many columns.
-fn push_characters(
-    svg: &mut String,
-    look: &Look,
-    left: u32,
-    top: u32,
-    columns: u32,
-    text: &str,
-) -> Result<(), AllocError> {
-    push_str(svg, "<text")?;
-    push_number(svg, " x", left)?;
-    push_number(svg, " y", top.saturating_add(BASE))?;
-    push_number(svg, " textLength", columns.saturating_mul(WIDTH))?;
-    push_str(svg, " lengthAdjust=\"spacingAndGlyphs\"")?;
-    push_look(svg, look)?;
-    push_str(svg, ">")?;
-    push_text(svg, text)?;
-    push_str(svg, "</text>\n")
-}
-
-// Appends the ground of so many columns, if it is not that of the picture.
-fn push_ground(
-    svg: &mut String,
-    look: &Look,
-    left: u32,
-    top: u32,
-    columns: u32,
-) -> Result<(), AllocError> {
-    let ground = ink_of(look).ground;
-    if ground == plain().ground {
-        return Ok(());
-    }
-    push_str(svg, "<rect")?;
-    push_number(svg, " x", left)?;
-    push_number(svg, " y", top)?;
-    push_number(svg, " width", columns.saturating_mul(WIDTH))?;
-    push_number(svg, " height", HEIGHT)?;
-    push_color(svg, " fill", ground)?;
-    push_str(svg, "/>\n")
-}
-
-// Returns whether characters of this look have a line under, through or above them.
-fn has_lines(look: &Look) -> bool {
+/// Returns whether characters of this look have a line under, through or above them.
+pub(crate) fn has_lines(look: &Look) -> bool {
     look.underline != Underline::None || look.strikethrough || look.overline
-}
-
-// Appends the attributes of characters of this look.
-fn push_look(svg: &mut String, look: &Look) -> Result<(), AllocError> {
-    let ink = ink_of(look);
-    push_color(svg, " fill", ink.text)?;
-    push_str(
-        svg,
-        if look.bold {
-            " font-weight=\"bold\""
-        } else {
-            ""
-        },
-    )?;
-    push_str(
-        svg,
-        if look.italic {
-            " font-style=\"italic\""
-        } else {
-            ""
-        },
-    )?;
-    push_str(
-        svg,
-        if look.faint {
-            " fill-opacity=\".6\""
-        } else {
-            ""
-        },
-    )?;
-    if !has_lines(look) {
-        return Ok(());
-    }
-    push_str(svg, " style=\"text-decoration:")?;
-    push_str(svg, line_words(look.underline))?;
-    push_str(
-        svg,
-        if look.strikethrough {
-            " line-through"
-        } else {
-            ""
-        },
-    )?;
-    push_str(svg, if look.overline { " overline" } else { "" })?;
-    if let Some(color) = ink.underline {
-        push_str(svg, " ")?;
-        push_rgb(svg, color)?;
-    }
-    push_str(svg, "\"")
 }
 
 // Returns the words of an underline (CSS Text Decoration 3).
@@ -319,28 +112,142 @@ fn line_words(underline: Underline) -> &'static str {
     }
 }
 
-// Appends an attribute that is a number.
-fn push_number(svg: &mut String, name: &str, number: u32) -> Result<(), AllocError> {
-    push_str(svg, name)?;
-    push_str(svg, "=\"")?;
-    push_display(svg, &number)?;
-    push_str(svg, "\"")
+// Returns the words, if they hold.
+fn words_if(holds: bool, words: &'static str) -> &'static str {
+    if holds { words } else { "" }
 }
 
-// Appends an attribute that is a colour.
-fn push_color(svg: &mut String, name: &str, color: Rgb) -> Result<(), AllocError> {
-    push_str(svg, name)?;
-    push_str(svg, "=\"")?;
-    push_rgb(svg, color)?;
-    push_str(svg, "\"")
-}
-
-// Appends a colour as `#RRGGBB`.
-fn push_rgb(svg: &mut String, (red, green, blue): Rgb) -> Result<(), AllocError> {
-    push_str(svg, "#")?;
-    for channel in [red, green, blue] {
-        push_char(svg, hex_digit(channel / 16) as char)?;
-        push_char(svg, hex_digit(channel % 16) as char)?;
+impl Svg {
+    // Returns no text. Takes no memory.
+    fn new(alloc: Global) -> Svg {
+        Svg {
+            text: String::new(alloc),
+            is_refused: false,
+        }
     }
-    Ok(())
+
+    // Returns the text. The error is that memory was refused.
+    fn ended(self) -> Result<String, AllocError> {
+        let Svg { text, is_refused } = self;
+        if is_refused {
+            Err(AllocError)
+        } else {
+            Ok(text)
+        }
+    }
+
+    // Appends a text as it is.
+    fn push(&mut self, text: &str) {
+        self.is_refused |= push_str(&mut self.text, text).is_err();
+    }
+
+    // Appends an attribute that is a number.
+    fn push_number(&mut self, name: &str, number: u32) {
+        self.push(name);
+        self.push("=\"");
+        self.is_refused |= push_display(&mut self.text, &number).is_err();
+        self.push("\"");
+    }
+
+    // Appends an attribute that is a colour.
+    fn push_color(&mut self, name: &str, color: Rgb) {
+        self.push(name);
+        self.push("=\"");
+        self.push_rgb(color);
+        self.push("\"");
+    }
+
+    // Appends a colour as `#RRGGBB`.
+    fn push_rgb(&mut self, (red, green, blue): Rgb) {
+        self.push("#");
+        self.push_channel(red);
+        self.push_channel(green);
+        self.push_channel(blue);
+    }
+
+    // Appends two digits.
+    fn push_channel(&mut self, channel: u8) {
+        self.push_digit(channel / 16);
+        self.push_digit(channel % 16);
+    }
+
+    fn push_digit(&mut self, digit: u8)
+        requires { digit < 16 }
+    {
+        self.is_refused |= push_char(&mut self.text, hex_digit(digit) as char).is_err();
+    }
+
+    // Appends text between two tags.
+    fn push_text(&mut self, text: &str) {
+        self.is_refused |= push_text(&mut self.text, text).is_err();
+    }
+
+    // Appends the root with its size, the title, and the ground.
+    fn begin(&mut self, view: View<'_>, title: &str) {
+        let width = u32::from(view.screen.width()) * WIDTH + 2 * MARGIN;
+        let height = u32::from(view.screen.height()) * HEIGHT + 2 * MARGIN;
+        self.push("<svg xmlns=\"http://www.w3.org/2000/svg\"");
+        self.push_number(" width", width);
+        self.push_number(" height", height);
+        self.push(" ");
+        self.push(FONT);
+        self.push("<title>");
+        self.push_text(title);
+        self.push("</title>\n<rect width=\"100%\" height=\"100%\"");
+        self.push_color(" fill", plain().ground);
+        self.push("/>\n");
+    }
+
+    /// Appends the characters of so many columns.
+    pub fn push_characters(&mut self, look: &Look, left: u32, top: u32, columns: u32, text: &str) {
+        self.push("<text");
+        self.push_number(" x", left);
+        self.push_number(" y", top.saturating_add(BASE));
+        self.push_number(" textLength", columns.saturating_mul(WIDTH));
+        self.push(" lengthAdjust=\"spacingAndGlyphs\"");
+        self.push_look(look);
+        self.push(">");
+        self.push_text(text);
+        self.push("</text>\n");
+    }
+
+    /// Appends the ground of so many columns, if it is not that of the picture.
+    pub fn push_ground(&mut self, look: &Look, left: u32, top: u32, columns: u32) {
+        let ground = ink_of(look).ground;
+        if ground == plain().ground {
+            return;
+        }
+        self.push("<rect");
+        self.push_number(" x", left);
+        self.push_number(" y", top);
+        self.push_number(" width", columns.saturating_mul(WIDTH));
+        self.push_number(" height", HEIGHT);
+        self.push_color(" fill", ground);
+        self.push("/>\n");
+    }
+
+    // Appends the attributes of characters of this look.
+    fn push_look(&mut self, look: &Look) {
+        let ink = ink_of(look);
+        self.push_color(" fill", ink.text);
+        self.push(words_if(look.bold, " font-weight=\"bold\""));
+        self.push(words_if(look.italic, " font-style=\"italic\""));
+        self.push(words_if(look.faint, " fill-opacity=\".6\""));
+        if has_lines(look) {
+            self.push_lines(look, ink.underline);
+        }
+    }
+
+    // Appends the attribute of the lines of this look, and the colour of the one under characters.
+    fn push_lines(&mut self, look: &Look, color: Option<Rgb>) {
+        self.push(" style=\"text-decoration:");
+        self.push(line_words(look.underline));
+        self.push(words_if(look.strikethrough, " line-through"));
+        self.push(words_if(look.overline, " overline"));
+        if let Some(color) = color {
+            self.push(" ");
+            self.push_rgb(color);
+        }
+        self.push("\"");
+    }
 }
