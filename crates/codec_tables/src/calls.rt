@@ -4,6 +4,7 @@ use crate::heap::is_exact;
 use crate::lent::{compared, noise_compared};
 use crate::lines::left;
 use crate::pages::page;
+use crate::painted::painted;
 use crate::queries::query_of;
 use crate::reused::{at_once, in_turn, is_right, lengthened};
 use crate::segments::{counted, listed};
@@ -37,6 +38,10 @@ use std::alloc::{AllocError, Global};
 ///   whether a link of a page may lead to it.
 /// - `left`: the final lines of a stream; `left-of-2-by-4`: the same if 2 rows of 4 columns may be
 ///   written again.
+/// - `painted`: the text that paints the screen of a stream, of 12 columns and 4 rows, and
+///   `painted-back` whether terminals that read it show that screen; `led` and `led-back`: the same
+///   of the text that leads from the screen of a stream to that of the one after FF, and
+///   `led-from-smaller` from one of 5 columns and 2 rows.
 /// - `lent`: whether the events of a stream that comes in chunks to `heapless_parser` are those of
 ///   a parser; `lent-noise`: the first stream, made of the chunks between `|`, whose events differ.
 /// - `refusing`: whether the allocator that refuses a request refuses this alone; `reusing`:
@@ -83,6 +88,9 @@ fn of_stream(
         "html" | "html-by-lines" => page(alloc, heap, input, call == "html-by-lines"),
         "left" => left(alloc, heap, input, (32, 200)),
         "left-of-2-by-4" => left(alloc, heap, input, (2, 4)),
+        "painted" | "painted-back" | "led" | "led-back" | "led-from-smaller" => {
+            painted(call, alloc, heap, input)
+        }
         "safe-address" => emitted(alloc, is_safe_address(text(input))),
         _ => of_allocator(call, alloc, heap, input),
     }
