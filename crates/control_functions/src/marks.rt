@@ -22,7 +22,6 @@ pub(crate) fn packed_marks(csi_params: &[CsiParam]) -> Option<u32>
 }
 
 // Returns these marks and one more, if there is one; `None` if that is the third.
-#[tactic(auto, using(crate::proofs::Packed::too_many))]
 #[inline]
 fn with_mark(packed: u32, mark: Option<u8>) -> Option<u32>
     requires { packed < 2 ^ 24 }
