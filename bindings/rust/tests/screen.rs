@@ -63,8 +63,10 @@ fn wraps() {
 
 #[test]
 fn strings() {
-    let parser =
-        parser(b"\x1b]0;both\x07\x1b]2;a title\x07\x1b]8;id=n;http://a/\x07x\x1b]8;;http://b/\x07y\x1b]8;;\x07z");
+    let parser = parser(
+        b"\x1b]0;both\x07\x1b]2;a title\x07\
+          \x1b]8;id=n;http://a/\x07x\x1b]8;;http://b/\x07y\x1b]8;;\x07z",
+    );
     let screen = parser.screen();
     assert_eq!((screen.title(), screen.icon_name()), ("a title", "both"));
     let link = |col| {
