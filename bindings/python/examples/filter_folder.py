@@ -46,8 +46,9 @@ def sanitize_recording(read: IO[bytes], write: IO[bytes], log: Sanitizer) -> Non
         if line.strip() and not line.startswith(b"#"):
             time, kind, text = json.loads(line)
             if kind == "o":
-                text, last = log.feed(text.encode(errors="replace")).decode(), time
+                text = log.feed(text.encode(errors="replace")).decode()
             put([time, kind, text])
+            last = time
     if end := log.finish().decode():
         # (version 3 counts each time from the event before)
         put([last if header["version"] == 2 else 0, "o", end])

@@ -86,7 +86,7 @@ def test_a_recording(tmp_path: Path) -> None:
         [0.75, "i", "key"],
         [1, "o", "b\x1b[31mréd"],
         [1.5, "r", "90x24"],
-        [1, "o", "\x1b[0m"],
+        [1.5, "o", "\x1b[0m"],
     ]
     # ("a", "b" and "réd" with its colour; the title is left out)
     assert (account.passed, account.left_out, account.length) == (11, 10, 21)
