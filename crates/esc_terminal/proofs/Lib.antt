@@ -9,3 +9,5 @@ pub mod Handed
 pub mod Stepping
 pub mod Here
 pub mod RectangleSteps
+pub mod Colors
+pub mod Bounds

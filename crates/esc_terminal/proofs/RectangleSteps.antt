@@ -45,7 +45,7 @@ then_step p q u xs x ks n rs h b =
 
 -- ---- nothing is scrolled off
 
-abbrev IsStill : Step → Type 0
+abbrev pub IsStill : Step → Type 0
 IsStill x = (s : Size) (g : Grid) → off_by s g x ≡ []
 
 still_if : (b : Bool) (x y : Step) → IsStill x → IsStill y → IsStill (if b then x else y)
@@ -78,12 +78,12 @@ still_sequence es last =
     (still_if (last == 0x78) _ _
     (still_dollared es _ (still_fill (number_at 0 es) (area_at 1 es))) none_still))
 
-still_csi : (c : CsiValue) → IsStill (csi_step c)
+pub still_csi : (c : CsiValue) → IsStill (csi_step c)
 still_csi (sgr s) = none_still
 still_csi (unspecified es truncated last) =
     still_if truncated _ _ none_still (still_sequence es last)
 
-same_off : (s : Size) (g : Grid) (xs : List Step) (x : Step) → IsStill x
+pub same_off : (s : Size) (g : Grid) (xs : List Step) (x : Step) → IsStill x
     → off_from s g (xs ++ x ∷ []) ≡ off_from s g xs
 same_off s g xs x h =
     off_in_chunks s g xs (x ∷ [])

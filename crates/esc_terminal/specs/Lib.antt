@@ -11,3 +11,4 @@ pub mod Fed
 pub mod Scrolled
 pub mod Kept
 pub mod Resized
+pub mod Bounds

@@ -1,4 +1,5 @@
 //! Laws of terminals, for every allocator `A`, which the type of the actions names.
+ghost use Rattle.esc_terminal.specs.Bounds.{ScrollsFew};
 ghost use Rattle.esc_terminal.specs.Laws.{GoesOn, IsAlwaysSound, IsAlwaysWhole, StandsAt};
 ghost use Rattle.esc_terminal.specs.Scrolled.{GoesOffOn};
 
@@ -28,4 +29,10 @@ pub fn goes_off_on<A: Allocator>()
 /// A terminal that was fed a stream shows the screen of that.
 pub fn stands_at<A: Allocator>()
     ensures { StandsAt A }
+{}
+
+/// A value scrolls off at most as many rows as the screen has rows and columns together, and each
+/// row is as wide as the screen. The numbers of its colours are bytes.
+pub fn scrolls_few<A: Allocator>()
+    ensures { ScrollsFew A }
 {}

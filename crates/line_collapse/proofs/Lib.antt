@@ -4,3 +4,4 @@ mod Taken
 mod Losing
 pub mod Streams
 mod Texts
+mod Bounds

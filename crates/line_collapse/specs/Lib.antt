@@ -3,3 +3,4 @@ pub mod Streams
 pub mod Taken
 pub mod Lost
 pub mod Fed
+pub mod Bounds

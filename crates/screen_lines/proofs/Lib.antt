@@ -3,3 +3,4 @@ mod Looks
 pub mod Runs
 pub mod Tokens
 pub mod Bare
+pub mod Bounds

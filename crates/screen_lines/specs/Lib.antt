@@ -2,3 +2,4 @@ pub mod Parts
 pub mod Rows
 pub mod Runs
 pub mod Written
+pub mod Bounds

@@ -4,6 +4,7 @@ ghost use Rattle.std.specs.List.{All};
 ghost use Rattle.esc_filter.specs.Tokens.{IsColorText, IsPlainText};
 ghost use Rattle.esc_terminal.specs.Links.{first_known};
 ghost use Rattle.esc_terminal.specs.Scrolled.{Row};
+ghost use Rattle.screen_lines.specs.Bounds.{AreBounded};
 ghost use Rattle.screen_lines.specs.Parts.{Out};
 ghost use Rattle.screen_lines.specs.Rows.{out_by_rows};
 
@@ -18,4 +19,11 @@ pub fn are_color_text()
 pub fn are_plain_text()
     ensures { (o : Out) (rs : List Row) → o.ink.leads ≡ false → All (λ r. r.1 ≡ first_known) rs
         → IsPlainText o.text → IsPlainText (out_by_rows o rs).text }
+{}
+
+/// The text of rows is bounded: a row of so many cells adds at most 608 bytes for each, and 228
+/// more, besides 1 MiB that links may take. The numbers of colours are bytes, as in a
+/// [`Color`](esc_style::Color).
+pub fn are_bounded()
+    ensures { AreBounded }
 {}

@@ -4,3 +4,4 @@ pub mod Keys
 pub mod ReadBack
 pub mod Spelled
 pub mod Texts
+pub mod Selected

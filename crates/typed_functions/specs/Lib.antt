@@ -9,3 +9,4 @@ pub mod Renditions
 pub mod Selections
 pub mod Spellings
 pub mod Windows
+pub mod Selected

@@ -13,9 +13,12 @@ ghost use Rattle.typed_functions.specs.declared.mode_status.ModeStatus.{ModeStat
 ghost use Rattle.typed_functions.specs.declared.window.Window.{Window};
 ghost use Rattle.typed_functions.specs.Arguments.{AreArguments};
 ghost use Rattle.typed_functions.specs.Charsets.{charset_bytes};
-ghost use Rattle.typed_functions.specs.Escapes.{AreBytes, escape_bytes, of_bytes, of_intermediates};
-ghost use Rattle.typed_functions.specs.Functions.{charset, cursor, device, edit, escape, keyboard, mode_status, mouse, of_params, window};
+ghost use Rattle.esc_sequences.specs.Csis.{CsiValue};
+ghost use Rattle.esc_sequences.specs.declared.esc.Esc.{Esc};
+ghost use Rattle.typed_functions.specs.Escapes.{AreBytes, escape_bytes, of_bytes, of_escape, of_intermediates};
+ghost use Rattle.typed_functions.specs.Functions.{charset, cursor, device, edit, escape, keyboard, mode_status, mouse, of_csi, of_params, window};
 ghost use Rattle.typed_functions.specs.Renditions.{AreRenditions, IsRendition, normal_params, rendition_of};
+ghost use Rattle.typed_functions.specs.Selected.{IsSelected};
 ghost use Rattle.typed_functions.specs.Selections.{cut_entries, joined_entries, parameters, selections, spelled_rendition};
 ghost use Rattle.typed_functions.specs.Spellings.{cursor_spelling, device_spelling, edit_spelling, entries, keyboard_spelling, mode_status_spelling, mouse_spelling, window_spelling};
 ghost use Rattle.typed_functions.specs.Windows.{IsWindow};
@@ -116,4 +119,11 @@ pub fn escape_is_its_own()
 pub fn charset_reads_back()
     ensures { (c : Charset) → of_intermediates (charset_bytes c).0 (charset_bytes c).1
         ≡ charset c }
+{}
+
+/// The numbers of the colours that a sequence asks for are bytes.
+#[tactic(auto, using(crate::proofs::Selected::csi_small, crate::proofs::Selected::esc_small))]
+pub fn selects_bytes()
+    ensures sequence { (c : CsiValue) → IsSelected (of_csi c) }
+    ensures escape { (e : Esc) → IsSelected (of_escape e) }
 {}
