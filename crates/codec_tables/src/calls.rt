@@ -1,4 +1,5 @@
 //! The calls that rows name.
+use crate::captured::captured;
 use crate::codecs::{base64, bytes_image, emitted, image, link, link_with_id, of_parts};
 use crate::heap::is_exact;
 use crate::lent::{compared, noise_compared};
@@ -50,6 +51,8 @@ use std::alloc::{AllocError, Global};
 /// - `held-in-turn` and `held-at-once`: the number of requests that reach the allocator below
 ///   `caching_alloc` if blocks of these sizes, or so many of one size, are held; `lengthened`:
 ///   whether a list over it grows, and shrinks.
+/// - `read-through`, `write-through` and `flush-through`: what a call of `ErrorCapture` comes to if
+///   the calls below it end with these errors.
 /// - the sequences and controls of `typed.rt`, and the words and numbers of `words.rt`, which take
 ///   no memory.
 pub fn answer(
@@ -111,6 +114,7 @@ fn of_allocator(
         "held-in-turn" => in_turn(alloc, heap, text(input)),
         "held-at-once" => at_once(alloc, heap, text(input)),
         "lengthened" => lengthened(alloc, heap, text(input)),
+        "read-through" | "write-through" | "flush-through" => captured(call, alloc, input),
         _ => word(call, alloc, input),
     }
 }

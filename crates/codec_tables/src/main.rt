@@ -11,6 +11,7 @@
 #![tactic(auto)]
 
 mod calls;
+mod captured;
 mod codecs;
 mod field;
 mod heap;
@@ -24,6 +25,7 @@ mod queries;
 mod refusals;
 mod reused;
 mod row;
+mod scripted;
 mod seen;
 mod segments;
 mod sixels;

@@ -3,6 +3,7 @@ ghost use Rattle.std.specs.Prelude.{◌≤◌, length};
 
 use crate::carried::Carried;
 use crate::framed::{is_framed, is_left_open, may_hold_controls};
+use crate::input::{Found, Sent, add_sent, found_in, paste_end_in};
 use crate::item::Item;
 use crate::kind::Kind;
 use crate::line::{add_line, add_said};
@@ -12,7 +13,6 @@ use crate::resume::{held_back, resumed};
 use crate::stats::Stats;
 use crate::vt52::{Address, Vt52, address_in};
 use crate::words::Words;
-use dump_input::{Found, Sent, add_sent, found_in, paste_end_in};
 use dump_page::Page;
 use esc_frame::VTParser;
 use esc_segments::{Segment, SegmentKind, Segments};

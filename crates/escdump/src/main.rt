@@ -19,6 +19,7 @@ mod entries;
 mod escapes;
 mod fields;
 mod framed;
+mod input;
 mod item;
 mod key_words;
 mod kind;

@@ -1,3 +1,5 @@
+pub mod Adding
+mod Printing
 mod Closing
 mod Rows
 mod Taken

@@ -1,8 +1,8 @@
 -- The text that stands in no row.
 use Rattle.std.proofs.Common.{ℕ, ◌≡◌, Bool, true, false, if◌then◌else◌, List, [], ◌∷◌, ◌++◌, Some, None, Option, IsSomeAnd, is_some, refl, sym, ap, ◌∙◌, subst}
-use Rattle.text_tally.specs.Amounts.{missing}
-use Rattle.text_tally.specs.Tallies.{HasTallied, kept_amount, printed_amount}
-use Rattle.text_tally.specs.declared.tally.Tally.{Tally}
+use Rattle.line_collapse.specs.Amounts.{missing}
+use Rattle.line_collapse.specs.Tallies.{HasTallied, kept_amount, printed_amount}
+use Rattle.line_collapse.specs.declared.tally.Tally.{Tally}
 use Rattle.esc_actions.specs.Values.{Value}
 use Rattle.esc_screen.specs.Grids.{Size as Screened}
 use Rattle.esc_screen.specs.Screens.{grid_of}

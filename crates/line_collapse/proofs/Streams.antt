@@ -1,7 +1,7 @@
 -- The values that rows were given.
 use Rattle.std.proofs.Common.{ℕ, ◌≡◌, List, [], ◌++◌, Option, Some, is_some, max, refl, ap, sym, subst, ◌∙◌, append_assoc}
 use Rattle.std.specs.List.{FoldsTo}
-use Rattle.text_tally.specs.declared.tally.Tally.{Tally}
+use Rattle.line_collapse.specs.declared.tally.Tally.{Tally}
 use Rattle.esc_actions.proofs.Meaning.MeaningsJoin.{meaning_nil}
 use Rattle.esc_actions.specs.Meaning.{yield_within}
 use Rattle.esc_terminal.specs.Fed.{for_log, HasConsumed as TerminalHasConsumed}

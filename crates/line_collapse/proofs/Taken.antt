@@ -5,11 +5,11 @@ use Rattle.std.proofs.lemmas.List.{get_or_past, map-append}
 use Rattle.std.proofs.lemmas.List.Sums.{sum_by-append}
 use Rattle.std.proofs.lemmas.Result.{IfOk-at_ok}
 use Rattle.std.specs.List.{FoldsTo, sum_by}
-use Rattle.text_tally.proofs.Adding.{same_amount, sum_first}
-use Rattle.text_tally.specs.Amounts.{amount}
-use Rattle.text_tally.specs.RowText.{cell_bytes, cell_chars, row_bytes, row_chars}
-use Rattle.text_tally.specs.Tallies.{HasTallied, kept_amount}
-use Rattle.text_tally.specs.declared.tally.Tally.{Tally}
+use Rattle.line_collapse.proofs.Adding.{same_amount, sum_first}
+use Rattle.line_collapse.specs.Amounts.{amount}
+use Rattle.line_collapse.specs.RowText.{cell_bytes, cell_chars, row_bytes, row_chars}
+use Rattle.line_collapse.specs.Tallies.{HasTallied, kept_amount}
+use Rattle.line_collapse.specs.declared.tally.Tally.{Tally}
 use Rattle.esc_actions.proofs.Meaning.MeaningsJoin.{meaning_nil}
 use Rattle.esc_actions.specs.Meaning.{yield_within}
 use Rattle.esc_screen.specs.Cells.{blank}

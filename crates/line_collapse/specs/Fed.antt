@@ -1,6 +1,6 @@
 -- The stream that rows were given.
 use Rattle.std.specs.Prelude.{ℕ, ◌≡◌, List, [], ◌++◌, IsSomeAnd, None, Option, Some}
-use Rattle.text_tally.specs.declared.tally.Tally.{Tally}
+use Rattle.line_collapse.specs.declared.tally.Tally.{Tally}
 use Rattle.esc_normal.specs.declared.feeding.StreamFilter.{Ghosts as Feeder}
 use Rattle.esc_terminal.specs.Fed.{HasConsumed as TerminalHasConsumed}
 use Rattle.esc_screen.specs.Grids.{Grid}

@@ -1,3 +1,7 @@
+pub mod Amounts
+pub mod PrintedText
+pub mod RowText
+pub mod Tallies
 pub mod Windows
 pub mod Streams
 pub mod Taken

@@ -1,9 +1,9 @@
 -- The text that a stream prints, and that stands in no row at last.
 use Rattle.std.specs.Prelude.{ℕ, if◌then◌else◌, List, ◌++◌, map}
-use Rattle.text_tally.specs.Amounts.{amount, missing}
-use Rattle.text_tally.specs.PrintedText.{printed_bytes, printed_chars}
-use Rattle.text_tally.specs.Tallies.{kept_amount}
-use Rattle.text_tally.specs.declared.amount.Amount.{Amount}
+use Rattle.line_collapse.specs.Amounts.{amount, missing}
+use Rattle.line_collapse.specs.PrintedText.{printed_bytes, printed_chars}
+use Rattle.line_collapse.specs.Tallies.{kept_amount}
+use Rattle.line_collapse.specs.declared.amount.Amount.{Amount}
 use Rattle.esc_actions.specs.Values.{Value}
 use Rattle.esc_screen.specs.declared.cell.Cell.{Cell}
 use Rattle.esc_terminal.specs.Scrolled.{Row, off_after, off_of}

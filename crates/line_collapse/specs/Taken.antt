@@ -1,7 +1,7 @@
 -- Rows that are taken, and text that is counted.
 use Rattle.std.specs.Prelude.{ℕ, ◌≡◌, List, [], ◌∷◌, ◌++◌, IfSome, is_some, Option}
-use Rattle.text_tally.specs.Tallies.{HasTallied}
-use Rattle.text_tally.specs.declared.tally.Tally.{Tally}
+use Rattle.line_collapse.specs.Tallies.{HasTallied}
+use Rattle.line_collapse.specs.declared.tally.Tally.{Tally}
 use Rattle.esc_screen.specs.declared.cell.Cell.{Cell}
 use Rattle.esc_terminal.specs.Scrolled.{Row}
 use Rattle.screen_lines.specs.Written.{WritesRow}

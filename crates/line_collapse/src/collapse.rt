@@ -14,13 +14,13 @@ ghost use Rattle.fallible_alloc.specs.Refusals.{Refused};
 use crate::lost::lost_on;
 use crate::seen::count_left;
 use crate::taking::{Taking, printed, tally_if};
+use crate::tally::Tally;
 use crate::window::Window;
 use esc_filter::Unicode;
 use esc_screen::Screen;
 use esc_terminal::{Rows, Styles, Terminal};
 use screen_lines::Lines;
 use std::alloc::{AllocError, Allocator, Global};
-use text_tally::Tally;
 
 /// Takes a stream in whatever chunks it comes, and gives for each the text of the rows that became
 /// final: those that no longer may be written again.

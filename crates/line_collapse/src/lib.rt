@@ -15,13 +15,17 @@
 //! ```
 #![tactic(auto)]
 
+mod amount;
 pub mod collapse;
 pub mod collapsing;
+mod counting;
 mod filtering;
 mod laws;
 mod lost;
+mod printed;
 mod seen;
 mod taking;
+mod tally;
 pub mod window;
 
 pub use collapse::LineCollapser;

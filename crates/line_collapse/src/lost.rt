@@ -1,18 +1,19 @@
 //! The text that stands in no row.
 ghost use Rattle.std.specs.Prelude.{◌≡◌, ◌++◌, ℕ, List};
-ghost use Rattle.text_tally.specs.Amounts.{Adds, missing};
-ghost use Rattle.text_tally.specs.RowText.{rows_bytes, rows_chars};
-ghost use Rattle.text_tally.specs.Tallies.{HasTallied, kept_amount, printed_amount};
+ghost use Rattle.line_collapse.specs.Amounts.{Adds, missing};
+ghost use Rattle.line_collapse.specs.RowText.{rows_bytes, rows_chars};
+ghost use Rattle.line_collapse.specs.Tallies.{HasTallied, kept_amount, printed_amount};
 ghost use Rattle.esc_screen.specs.Screens.{grid_of};
 ghost use Rattle.esc_screen.specs.declared.cell.Cell.{Cell};
 ghost use Rattle.esc_terminal.specs.Links.{known_of};
 ghost use Rattle.line_collapse.specs.Streams.{rows_left};
 
+use crate::amount::Amount;
 use crate::seen::count_left;
+use crate::tally::Tally;
 use esc_screen::Screen;
 use esc_terminal::Styles;
 use std::alloc::Allocator;
-use text_tally::{Amount, Tally};
 
 /// How much of the text that was printed stands in no row that the tally counted, and in none that
 /// is left on this screen.

@@ -2,15 +2,15 @@
 ghost use Rattle.std.specs.Prelude.{◌≡◌, ℕ, List, [], IfOk, OnErr, Some, is_some};
 ghost use Rattle.esc_screen.specs.Used.{IsUnusedFrom};
 ghost use Rattle.esc_screen.specs.declared.cell.Cell.{Cell as TheCell};
-ghost use Rattle.text_tally.specs.Tallies.{HasTallied};
+ghost use Rattle.line_collapse.specs.Tallies.{HasTallied};
 ghost use Rattle.line_collapse.specs.Taken.{IsCounted, Keeps, Prints, TakesRow};
 ghost use Rattle.fallible_alloc.specs.Refusals.{Refused};
 
+use crate::tally::Tally;
 use esc_screen::Cell;
 use esc_terminal::{Rows, Styles};
 use screen_lines::Lines;
 use std::alloc::{AllocError, Allocator, Global};
-use text_tally::Tally;
 
 /// Takes rows: their text, and if there is a tally, how much that is.
 #[derive(Drop)]

@@ -1,10 +1,10 @@
 use Rattle.std.proofs.Common.{ap, ◌++◌, ◌∙◌}
 use Rattle.esc_screen.specs.Screens.{grid_of}
 use Rattle.esc_terminal.specs.Links.{known_of}
-use Rattle.text_tally.proofs.Adding.{list_added}
-use Rattle.text_tally.specs.Amounts.{missing}
-use Rattle.text_tally.specs.RowText.{row_bytes, row_chars}
-use Rattle.text_tally.specs.Tallies.{kept_amount, printed_amount}
+use Rattle.line_collapse.proofs.Adding.{list_added}
+use Rattle.line_collapse.specs.Amounts.{missing}
+use Rattle.line_collapse.specs.RowText.{row_bytes, row_chars}
+use Rattle.line_collapse.specs.Tallies.{kept_amount, printed_amount}
 use Rattle.line_collapse.specs.Streams.{rows_left}
 use Rattle.line_collapse.proofs.lost.lost_on.Goals as goal
 

@@ -1,7 +1,7 @@
 use Rattle.std.proofs.Common.{◌≡◌, ◌<◌, [], ap, length, subst, arith, rules, take, ◌∙◌}
-use Rattle.text_tally.proofs.Adding.{next_added}
-use Rattle.text_tally.specs.Amounts.{Adds}
-use Rattle.text_tally.specs.RowText.{row_bytes, row_chars, rows_bytes, rows_chars}
+use Rattle.line_collapse.proofs.Adding.{next_added}
+use Rattle.line_collapse.specs.Amounts.{Adds}
+use Rattle.line_collapse.specs.RowText.{row_bytes, row_chars, rows_bytes, rows_chars}
 use Rattle.esc_screen.specs.Scrolled.{main_rows}
 use Rattle.esc_screen.specs.Screens.{grid_of}
 use Rattle.line_collapse.proofs.lost.with_left.Goals as goal

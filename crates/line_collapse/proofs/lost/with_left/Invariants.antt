@@ -1,6 +1,6 @@
 use Rattle.std.proofs.Common.{take}
-use Rattle.text_tally.specs.Amounts.{Adds}
-use Rattle.text_tally.specs.RowText.{rows_bytes, rows_chars}
+use Rattle.line_collapse.specs.Amounts.{Adds}
+use Rattle.line_collapse.specs.RowText.{rows_bytes, rows_chars}
 use Rattle.esc_screen.specs.Scrolled.{main_rows}
 use Rattle.esc_screen.specs.Screens.{grid_of}
 use Rattle.line_collapse.proofs.lost.with_left.Given as goal

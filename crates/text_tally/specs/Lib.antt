@@ -1,4 +1,0 @@
-pub mod Amounts
-pub mod PrintedText
-pub mod RowText
-pub mod Tallies
